@@ -1,9 +1,9 @@
 -- The laws of rows that the text source rests on. Assumes nothing.
-use mathlib.Core.Path.{_≡_, refl, sym, ap, _∙_}
+use mathlib.Core.Path.{_≡_, refl, sym, ap, subst, _∙_}
 use mathlib.Core.Bool.{true, false, not, _||_}
 use mathlib.Core.List.{List, [], _∷_}
 use mathlib.Core.Logic.{⊎-elim}
-use Prim.Native.Nat.{ℕ, _+_, _-_, _≤_, _<_, suc}
+use Prim.Native.Nat.{ℕ, _+_, _-_, _≤_, _<_, zero, suc}
 use native.Mathlib.Nat.{add-zero, suc-add}
 use native.Mathlib.Numerals.{add-one, one-add}
 use native.Mathlib.Omega.{arith}
@@ -13,12 +13,13 @@ use Rattle.std.specs.shelf.Lists.{between, sumBy}
 use Rattle.std.proofs.shelf.Lists.{length-drop, length-map, drop-drop, drop-all, getD-map, getD-drop}
 use Rattle.std.proofs.shelf.Edits.{length-between}
 use Rattle.std.proofs.shelf.Sums.{leading-le-length, sumBy-more}
-use Rattle.std.proofs.shelf.Tests.{cases-bool, cases-lt, lt-ltb, le-ltb, lt-leb, le-leb, leb-false, eqb-false, eq-eqb, ne-eqb, cond-true, cond-false, or-parts}
-use Rattle.lines.specs.Rows.{row, rows, rowLen, wrong, firstWrong, wrongRow, scanned, linesIn, startOf, endOf, Starts, part, spot, lineIn}
+use Rattle.std.proofs.shelf.Tests.{cases-bool, cases-lt, lt-ltb, le-ltb, lt-leb, le-leb, leb-false, eqb-true, eqb-false, eq-eqb, ne-eqb, cond-true, cond-false, or-parts}
+use Rattle.lines.specs.Rows.{row, rows, rowLen, wrong, firstWrong, wrongRow, scanned, linesIn, startOf, endOf, part, spot, lineIn}
 use Rattle.std.specs.declared.option.Option.the-variants.{Some}
 use Rattle.lines.specs.declared.fault.Cause.the-variants.{TextForm}
 use Rattle.lines.specs.Faults.{placed}
 use Rattle.lines.specs.Lines.{lineOf, lacks}
+use Rattle.lines.specs.TextLaws.{lawful}
 use Rattle.lines.proofs.LineLaws.{lacks-past, lacks-not}
 use Rattle.std.specs.declared.result.Result.the-variants.{Ok, Err}
 
@@ -95,6 +96,10 @@ done bs at n sofar end =
     let long : length (rows (drop at bs)) ≡ 0 = ap length none in
     cond-true _ _ _ yes ∙ ap Ok (omega arith)
 
+-- row n begins at `at`: that is the place of line n, and the rows from there on are those after the n - 1 first
+abbrev pub Starts : List ℕ → ℕ → ℕ → Type 0
+Starts bs n at = (at ≡ startOf (linesIn bs) n) × (rows (drop at bs) ≡ drop (n - 1) (rows bs))
+
 -- where a row is left, a byte is left
 pub byte-left : (bs : List ℕ) (at n : ℕ) → Starts bs n at → 1 ≤ n → n ≤ length (rows bs) → at < length bs
 byte-left bs at n starts one more =
@@ -133,6 +138,29 @@ module _ (bs : List ℕ) (at end n : ℕ) (is : end ≡ at + rowLen (drop at bs)
         ap (drop 1) (sym (rows-at bs at end inside is)) ∙ ap (drop 1) (starts .1) ∙ drop-drop 1 (n - 1) (rows bs) ∙ ap (λ i. drop i (rows bs)) (sym back),
       )
 
+-- the place of row n is where it begins
+starts-next : (bs : List ℕ) (m : ℕ) → m ≤ length (rows bs) → Starts bs (m + 1) (startOf (linesIn bs) (m + 1))
+starts-next bs zero h = starts-first bs
+starts-next bs (suc m) h =
+    let at : ℕ = startOf (linesIn bs) (m + 1) in
+    let more : Starts bs (m + 1 + 1) (at + rowLen (drop at bs) + 1) = starts-more bs at (at + rowLen (drop at bs)) (m + 1) refl (omega arith) (omega arith) (starts-next bs m (omega arith)) in
+    let same : m + 1 + 1 ≡ suc m + 1 = omega arith in
+    subst (λ k. Starts bs k (startOf (linesIn bs) k)) same (refl, ap (λ a. rows (drop a bs)) (sym (more .0)) ∙ more .1)
+
+pub starts-at : (bs : List ℕ) (at n : ℕ) → at ≡ startOf (linesIn bs) n → 1 ≤ n → n ≤ length (rows bs) → Starts bs n at
+starts-at bs at n is one more =
+    let same : n - 1 + 1 ≡ n = omega arith in
+    let s : Starts bs n (startOf (linesIn bs) n) = subst (λ k. Starts bs k (startOf (linesIn bs) k)) same (starts-next bs (n - 1) (omega arith)) in
+    (is, ap (λ a. rows (drop a bs)) is ∙ s .1)
+
+-- one row further: the next begins behind its LF
+module _ (bs : List ℕ) (at end n : ℕ) (here : at ≡ startOf (linesIn bs) n) (is : end ≡ at + rowLen (drop at bs)) (one : 1 ≤ n) (more : n ≤ length (rows bs)) where
+  pub next-start : end + 1 ≡ startOf (linesIn bs) (n + 1)
+  next-start = starts-more bs at end n is one more (starts-at bs at n here one more) .0
+
+  pub row-within : end ≤ length bs
+  row-within = end-within bs at end (byte-left bs at n (starts-at bs at n here one more) one more) is
+
 pub has-row : (bs : List ℕ) (n : ℕ) → 1 ≤ n → n ≤ length (rows bs) → lacks (linesIn bs) n ≡ false
 has-row bs n one more = let long : length (linesIn bs) ≡ length (rows bs) = length-map (rows bs) (λ r. r .bytes) in lacks-not (linesIn bs) n one (omega arith)
 
@@ -151,3 +179,14 @@ module _ (bs : List ℕ) (at end n : ℕ) (is : end ≡ at + rowLen (drop at bs)
 
   pub lineIn-is : Some (between at end bs) ≡ lineIn bs n
   lineIn-is = ap Some (sym (line-is bs at end n is one more starts)) ∙ sym (cond-false _ _ _ (has-row bs n one more))
+
+-- what an accepted scan says
+pub scanned-ok : (bs : List ℕ) (n : ℕ) → Ok n ≡ scanned bs → (wrongRow bs ≡ 0) × (n ≡ length (rows bs))
+scanned-ok bs n is =
+    ⊎-elim
+    (λ (e : eqb (wrongRow bs) 0 ≡ true). let same : Ok n ≡ Ok (length (rows bs)) = is ∙ cond-true _ _ _ e in (eqb-true (wrongRow bs) 0 e, cc))
+    (λ (e : eqb (wrongRow bs) 0 ≡ false). let never : Ok n ≡ Err (placed TextForm (wrongRow bs)) = is ∙ cond-false _ _ _ e in let z : _≡_ {A = ℕ} 0 1 = cc in absurd (omega arith))
+    (cases-bool (eqb (wrongRow bs) 0))
+
+pub rows-few : (bs : List ℕ) → wrongRow bs ≡ 0 → length (rows bs) ≤ 4000
+rows-few bs none = let long : length (linesIn bs) ≡ length (rows bs) = length-map (rows bs) (λ r. r .bytes) in omega (arith, lawful bs none .0)

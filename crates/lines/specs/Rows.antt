@@ -9,12 +9,14 @@
 -- startOf, endOf  where line n stands in the bytes
 -- part bs n       line n as the part of the bytes from its start to its end
 -- spot p bs n     where that part lies in memory, for bytes that lie at a block and an offset p
+-- lineIn bs n     line n
+-- Marked bs xs    xs has the places of rows 1, 65, 129 and so on
 use mathlib.Core.Path.{_≡_}
 use mathlib.Core.Bool.{Bool, true, false, cond, not, _||_}
 use mathlib.Core.List.{List, [], _∷_, map}
-use Prim.Native.Nat.{ℕ, _+_, _-_}
+use Prim.Native.Nat.{ℕ, _+_, _-_, _*_, _<_}
 use lib.Dec.{eqb, ltb}
-use lib.ListN.{length, take, drop}
+use lib.ListN.{length, take, drop, getD}
 use Rattle.std.specs.declared.option.Option.{Option}
 use Rattle.std.specs.declared.option.Option.the-variants.{Some, None}
 use Rattle.std.specs.declared.result.Result.{Result}
@@ -93,6 +95,6 @@ spot p bs n = cond (lacks (linesIn bs) n) None (Some (p .0, startOf (linesIn bs)
 abbrev pub lineIn : List ℕ → ℕ → Option (List ℕ)
 lineIn bs n = cond (lacks (linesIn bs) n) None (Some (lineOf (linesIn bs) n))
 
--- row n begins at `at`: that is the place of line n, and the rows from there on are those after the n - 1 first
-abbrev pub Starts : List ℕ → ℕ → ℕ → Type 0
-Starts bs n at = (at ≡ startOf (linesIn bs) n) × (rows (drop at bs) ≡ drop (n - 1) (rows bs))
+-- entry k of the marks is where row 64 × k + 1 begins
+abbrev pub Marked : List ℕ → List ℕ → Type 0
+Marked bs starts = (k : ℕ) → 64 * k < length (rows bs) → getD starts k 0 ≡ startOf (linesIn bs) (64 * k + 1)

@@ -1,53 +1,29 @@
 ghost use mathlib.Core.Path.{_≡_};
-ghost use Prim.Native.Nat.{_+_, _≤_};
-ghost use lib.ListN.{length, drop};
+ghost use lib.ListN.{length};
 ghost use denote.Ref.{now, ptr};
 ghost use Rattle.std.specs.Options.{mapped};
-ghost use Rattle.lines.specs.Rows.{rows, rowLen, wrongRow, scanned, checked, held, linesIn, part, lineIn, spot, Starts};
+ghost use Rattle.lines.specs.Rows.{rows, wrongRow, checked, held, linesIn, part, lineIn, spot, Marked};
 ghost use Rattle.lines.specs.TextLaws.{lawful};
 use crate::fault::Cause;
 use crate::fault::Fault;
 use crate::line::put_line;
+use crate::rows::MARKS;
+use crate::rows::mark_starts;
+use crate::rows::row_end;
+use crate::rows::row_start;
+use crate::rows::scan;
 use crate::source::LineSource;
 
-// Bytes held for reading, each line ended by LF.
+// Kind 1: bytes held for reading, each line ended by LF. The places of some lines are kept, so that a read does not
+// begin at the first.
 #[derive(Clone, Copy)]
 pub struct Text<'a> {
     bytes: &'a [u8],
     count: usize,
+    starts: [usize; MARKS],
     ghost whole: { wrongRow (now bytes) ≡ 0 },
     ghost counted: { count ≡ length (rows (now bytes)) },
-}
-
-// Where the row that begins at `from` ends: at the next LF, or at the end of the bytes.
-fn row_end(bytes: &[u8], from: usize) -> usize
-    ensures { λ r. ⌜ r ≡ from + rowLen (drop from (now (bytes .entry))) ⌝ }
-{
-    let mut i = from;
-    while i < bytes.len() && bytes[i] != 10 {
-        i += 1;
-    }
-    i
-}
-
-// The number of rows, or the refusal that names the first wrong one.
-fn scan(bytes: &[u8]) -> Result<usize, Fault>
-    ensures { λ r. ⌜ r ≡ scanned (now (bytes .entry)) ⌝ }
-{
-    let mut at = 0;
-    let mut n: u16 = 0;
-    while at < bytes.len() {
-        let end = row_end(bytes, at);
-        n += 1;
-        let long = end - at > 240;
-        let extra = n == 4001;
-        let open = end >= bytes.len();
-        if long | (extra | open) {
-            return Err(Fault::at(Cause::TextForm, n));
-        }
-        at = end + 1;
-    }
-    Ok(n as usize)
+    ghost marked: { Marked (now bytes) starts },
 }
 
 impl<'a> Text<'a> {
@@ -65,10 +41,18 @@ impl<'a> Text<'a> {
         ensures place { λ r. ⌜ ptr (r .bytes) ≡ ptr (bytes .entry) ⌝ }
     {
         match scan(bytes) {
-            Ok(count) => Text { bytes, count },
+            Ok(count) => {
+                let starts = mark_starts(bytes, count);
+                Text {
+                    bytes,
+                    count,
+                    starts,
+                }
+            }
             Err(_) => Text {
                 bytes: &bytes[0..0],
                 count: 0,
+                starts: [0; MARKS],
             },
         }
     }
@@ -83,30 +67,18 @@ impl<'a> Text<'a> {
             return None;
         }
         let bytes = self.bytes;
-        let start = row_start(bytes, n);
+        let start = row_start(bytes, &self.starts, n);
         let end = row_end(bytes, start);
         Some(&bytes[start..end])
     }
 }
 
-// Where row n begins, counted from 1.
-fn row_start(bytes: &[u8], n: usize) -> usize
-    requires { ⌜ 1 ≤ n ⌝ ∗ ⌜ n ≤ length (rows (now bytes)) ⌝ }
-    ensures { λ r. ⌜ Starts (now (bytes .entry)) n r ⌝ }
-{
-    let mut at = 0;
-    for _k in 1..n {
-        at = row_end(bytes, at) + 1;
-    }
-    at
-}
-
 pub impl<'a> LineSource for Text<'a> as TextSource {
     ghost lines = { λ t. linesIn (now (t .bytes)) };
 
-    ghost lawful = { λ t. lawful (now (t .bytes)) (t .whole) };
-
     ghost health = { λ _. 0 };
+
+    ghost lawful = { λ t. lawful (now (t .bytes)) (t .whole) };
 
     fn count(&self) -> usize {
         self.count
