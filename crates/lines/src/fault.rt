@@ -70,23 +70,15 @@ impl Fault {
     pub fn at(cause: Cause, place: u16) -> Fault
         ensures { λ r. ⌜ r ≡ placed cause place ⌝ }
     {
-        Fault {
-            cause,
-            place,
-            serial: 0,
-            layer: 0,
-        }
+        let fault = Fault::plain(cause);
+        Fault { place, ..fault }
     }
 
     // A refusal that names the layer of a kind.
     pub fn in_layer(cause: Cause, layer: u8) -> Fault
         ensures { λ r. ⌜ r ≡ layered cause layer ⌝ }
     {
-        Fault {
-            cause,
-            place: 0,
-            serial: 0,
-            layer,
-        }
+        let fault = Fault::plain(cause);
+        Fault { layer, ..fault }
     }
 }

@@ -7,15 +7,20 @@ use crate::fault::Cause;
 use crate::fault::Fault;
 use crate::source::LineSource;
 
+const LF: u8 = 10;
+
+// The most bytes that a line has.
+const LONGEST: usize = 240;
+
 // Are these bytes a line?
 pub fn is_line(line: &[u8]) -> bool
     ensures { λ r. ⌜ r ≡ isLine (now (line .entry)) ⌝ }
 {
-    if line.len() > 240 {
+    if line.len() > LONGEST {
         return false;
     }
     for b in line {
-        if *b == 10 {
+        if *b == LF {
             return false;
         }
     }
