@@ -1,0 +1,3 @@
+pub mod SumLaws
+pub mod LayerLaws
+pub mod ChangeLaws

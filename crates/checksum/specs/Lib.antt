@@ -1,0 +1,3 @@
+pub mod Sum
+pub mod Layer
+pub mod Change

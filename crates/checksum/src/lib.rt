@@ -1,0 +1,3 @@
+mod draft;
+pub mod layer;
+pub mod sum;
