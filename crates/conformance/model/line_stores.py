@@ -303,7 +303,7 @@ def call(pile, words):
         for _ in range(int(rest[0])):
             source = Layer(source)
         copied(source, pile)
-    return ""
+    return None
 
 
 def tuple_shown(answer):
@@ -321,12 +321,13 @@ def answers(table):
                 pile = make(words)
                 if pile.fault is not None:
                     raise pile.fault
-                print(("ok " + words[0]).strip())
+                print("ok " + words[0])
             elif words[0] == "block":
                 start, length = int(words[1]), int(words[2])
-                print(("ok " + shown(pile.block().memory[start : start + length])).rstrip())
+                print("ok " + shown(pile.block().memory[start : start + length]))
             else:
-                print(("ok " + call(pile, words)).rstrip())
+                answer = call(pile, words)
+                print("ok" if answer is None else "ok " + answer)
         except Refused as refused:
             print("? %d %d %d %d" % refused.four)
 

@@ -9,6 +9,7 @@ use lib.Dec.{eqb, leb, ltb}
 use lib.ListN.{length, getD, take, drop}
 use Rattle.std.specs.declared.option.Option.{Option}
 use Rattle.std.specs.declared.option.Option.the-variants.{Some, None}
+use Rattle.std.specs.declared.result.Result.the-variants.{Ok}
 use Rattle.std.specs.Results.{valueOr}
 use Rattle.std.proofs.shelf.Elements.{all-getD}
 use Rattle.std.proofs.shelf.Lists.{at-drop-more, getD-past, take-at}
@@ -58,6 +59,11 @@ check-fails b f r h = cond-true b (Some f) r h
 
 pub check-passes : (b : Bool) (f : Fault) (r : Refusal) → b ≡ false → when b f r ≡ r
 check-passes b f r h = cond-false b (Some f) r h
+
+-- a call that answers its value is accepted
+pub accepted-ok : {A : Type 0} (q : Refusal) (a : A) (x : A) → Ok x ≡ verdict q a → q ≡ accepted
+accepted-ok None a x e = refl
+accepted-ok (Some f) a x e = let z : _≡_ {A = ℕ} 0 1 = cc in absurd (omega arith)
 
 -- a read of a line that is not there, and of one that is
 pub read-none : (ls : List Line) (n space : ℕ) → (n ≡ 0) ⊎ (length ls < n) → readRefusal ls n space ≡ Some (plain NoSuchLine)

@@ -95,3 +95,8 @@ module _ (lim : ℕ × ℕ) (ls : List Line) (ok : Lawful ls) (room′ : fits li
   take-next =
       let back : i + 1 - 1 ≡ i = omega arith in
       ap (λ j. take i ls ++ (getD ls j [] ∷ [])) back ∙ sym (take-more ls i [] h)
+
+-- a list does not differ from itself
+pub no-difference : (n : ℕ) (ls : List Line) → differFrom n ls ls ≡ None
+no-difference n [] = refl
+no-difference n (l ∷ ls) = cond-true _ _ _ (sameBytes-decides l l .1 refl) ∙ no-difference (n + 1) ls

@@ -1,0 +1,5 @@
+pub mod PartLaws
+pub mod LaidLaws
+pub mod TwoSheets
+pub mod PackedLaws
+pub mod IndexedLaws

@@ -1,0 +1,249 @@
+ghost use mathlib.Core.Path.{_≡_};
+ghost use mathlib.Core.List.{[], _∷_, _++_};
+ghost use mathlib.Core.Bool.{cond};
+ghost use Prim.Native.Nat.{_-_};
+ghost use lib.ListN.{length, set};
+ghost use denote.Ref.{now as held};
+ghost use Rattle.std.specs.declared.option.Option.the-variants.{Some, None};
+ghost use Rattle.lines.specs.Faults.{verdict, left};
+ghost use Rattle.lines.specs.Lines.{draftLines, beginRefusal, addRefusal, patchRefusal, keepRefusal};
+ghost use Rattle.blocks.specs.Blocks.{fits, stands, listOf, draftOf, limitsOf, healthOf, blockRefusal, Begins, LaidOut};
+ghost use Rattle.blocks.specs.BlockLaws.{list-lawful, draft-lawful, limits-lawful};
+use crate::indexed::Indexed;
+use crate::layout::Layout;
+use crate::marks::Marks;
+use crate::marks::base_of;
+use crate::packed::Packed;
+use lines::fault::Cause;
+use lines::fault::Fault;
+use lines::line::is_line;
+use lines::source::LineSource;
+use lines::store::LineStore;
+
+const MOST_LINES: usize = 4000;
+
+const MOST_BYTES: usize = 24000;
+
+// A store over one lent block with two sheets: the current list lies on the one, the draft on the other.
+#[derive(Drop)]
+pub struct BlockStore<'a, L> {
+    block: &'a mut [u8],
+    at: Marks,
+    layout: L,
+}
+
+// Kind 2: the lines of a sheet are packed, each ended by LF.
+pub type Image<'a> = BlockStore<'a, Packed>;
+
+// Kind 3: a sheet has an index and a text.
+pub type IndexedBlock<'a> = BlockStore<'a, Indexed>;
+
+impl<'a, L: Layout> BlockStore<'a, L> {
+    // Are the limits at most 4,000 and 24,000, and has a block of so many bytes both sheets?
+    fn fits(size: usize, lines: usize, bytes: usize) -> bool
+        ensures { λ r. ⌜ r ≡ fits (L·Layout .size) lines bytes size ⌝ }
+    {
+        lines <= MOST_LINES && bytes <= MOST_BYTES && 2 * L::size(lines, bytes) <= size
+    }
+
+    // Refuses a block that is short for the limits, and limits above 4,000 or 24,000.
+    pub fn check(block: &[u8], lines: usize, bytes: usize) -> Result<(), Fault>
+        ensures { λ r. ⌜ r ≡ verdict (blockRefusal (L·Layout .size) lines bytes (length (now (block .entry)))) tt ⌝ }
+    {
+        if Self::fits(block.len(), lines, bytes) {
+            return Ok(());
+        }
+        Err(Fault::plain(Cause::BlockForm))
+    }
+
+    // A store with no lines, no draft and health 0; where `check` refuses, its limits are 0.
+    pub fn new(block: &'a mut [u8], lines: usize, bytes: usize) -> BlockStore<'a, L>
+        ensures begins { λ r. ⌜ Begins (listOf (L·Layout .lines) (L·Layout .size) (held (r .block)) (r .at)) (draftOf (L·Layout .lines) (L·Layout .size) (held (r .block)) (r .at)) (healthOf (r .at)) ⌝ }
+        ensures limits { λ r. ⌜ limitsOf (L·Layout .size) (held (r .block)) (r .at) ≡ cond (fits (L·Layout .size) lines bytes (length (now (block .entry)))) (lines, bytes) (0, 0) ⌝ }
+        ensures layout { λ r. ⌜ LaidOut (L·Layout .laid) (L·Layout .lines) (L·Layout .size) (held (r .block)) (r .at) ⌝ }
+    {
+        let at = Marks::new(lines, bytes);
+        let layout = L::default();
+        BlockStore { block, at, layout }
+    }
+
+    // Do the limits fit the block, and the counts the limits?
+    fn stands(&self) -> bool
+        ensures { λ r. ⌜ r ≡ stands (L·Layout .size) (held (now (self .entry) .block)) (now (self .entry) .at) ⌝ }
+    {
+        let m = self.at;
+        Self::fits(self.block.len(), m.lines, m.bytes) && m.within()
+    }
+}
+
+pub impl<'a, L: Layout> LineSource for BlockStore<'a, L> as BlockSource {
+    ghost lines = { λ s. listOf (L·Layout .lines) (L·Layout .size) (held (s .block)) (s .at) };
+
+    ghost health = { λ s. healthOf (s .at) };
+
+    ghost lawful = { λ s. list-lawful (L·Layout .lines) (L·Layout .size) (L·Layout .counted) (L·Layout .lawful) (held (s .block)) (s .at) };
+
+    fn count(&self) -> usize {
+        if self.stands() { self.at.count } else { 0 }
+    }
+
+    fn health(&self) -> u8 {
+        0
+    }
+
+    fn read(&self, n: usize, buf: &mut [u8]) -> Result<usize, Fault> {
+        if !self.stands() {
+            return Err(Fault::plain(Cause::NoSuchLine));
+        }
+        let m = self.at;
+        let size = L::size(m.lines, m.bytes);
+        let base = base_of(m.second, size);
+        let end = base + size;
+        let sheet = &self.block[base..end];
+        L::read_line(sheet, m.lines, m.count, n, buf)
+    }
+}
+
+pub impl<'a, L: Layout> LineStore for BlockStore<'a, L> as BlockLines {
+    ghost draft = { λ s. draftOf (L·Layout .lines) (L·Layout .size) (held (s .block)) (s .at) };
+
+    ghost limits = { λ s. limitsOf (L·Layout .size) (held (s .block)) (s .at) };
+
+    ghost bottom = { λ _. L·Layout .kind };
+
+    ghost lawfulDraft = { λ s. draft-lawful (L·Layout .lines) (L·Layout .size) (L·Layout .counted) (L·Layout .lawful) (held (s .block)) (s .at) };
+
+    ghost lawfulLimits = { λ s. limits-lawful (L·Layout .size) (held (s .block)) (s .at) };
+
+    ghost lawfulBottom = { λ _. L·Layout .lawfulKind };
+
+    fn limits(&self) -> (usize, usize) {
+        if self.stands() {
+            (self.at.lines, self.at.bytes)
+        } else {
+            (0, 0)
+        }
+    }
+
+    fn bottom(&self) -> u8 {
+        L::kind()
+    }
+
+    fn begin(&mut self) -> Result<(), Fault>
+        ensures answer { λ r. ⌜ r ≡ verdict (beginRefusal (limitsOf (L·Layout .size) (held (now (self .entry) .block)) (now (self .entry) .at))) tt ⌝ }
+        ensures draft { λ _. ⌜ draftOf (L·Layout .lines) (L·Layout .size) (held (now (self .exit) .block)) (now (self .exit) .at) ≡ left (beginRefusal (limitsOf (L·Layout .size) (held (now (self .entry) .block)) (now (self .entry) .at))) (Some []) (draftOf (L·Layout .lines) (L·Layout .size) (held (now (self .entry) .block)) (now (self .entry) .at)) ⌝ }
+        ensures list { λ _. ⌜ listOf (L·Layout .lines) (L·Layout .size) (held (now (self .exit) .block)) (now (self .exit) .at) ≡ listOf (L·Layout .lines) (L·Layout .size) (held (now (self .entry) .block)) (now (self .entry) .at) ⌝ }
+        ensures health { λ _. ⌜ healthOf (now (self .exit) .at) ≡ healthOf (now (self .entry) .at) ⌝ }
+        ensures limits { λ _. ⌜ limitsOf (L·Layout .size) (held (now (self .exit) .block)) (now (self .exit) .at) ≡ limitsOf (L·Layout .size) (held (now (self .entry) .block)) (now (self .entry) .at) ⌝ }
+        ensures bottom { λ _. ⌜ L·Layout .kind ≡ L·Layout .kind ⌝ }
+        ensures layout { λ _. ⌜ (LaidOut (L·Layout .laid) (L·Layout .lines) (L·Layout .size) (held (now (self .entry) .block)) (now (self .entry) .at) → LaidOut (L·Layout .laid) (L·Layout .lines) (L·Layout .size) (held (now (self .exit) .block)) (now (self .exit) .at)) ⌝ }
+    {
+        let m = self.at;
+        if !self.stands() || m.lines == 0 {
+            return Err(Fault::plain(Cause::NoRoom));
+        }
+        self.at = Marks {
+            drafted: true,
+            draft: 0,
+            ..m
+        };
+        Ok(())
+    }
+
+    fn add(&mut self, line: &[u8]) -> Result<(), Fault>
+        ensures answer { λ r. ⌜ r ≡ verdict (addRefusal (draftOf (L·Layout .lines) (L·Layout .size) (held (now (self .entry) .block)) (now (self .entry) .at)) (limitsOf (L·Layout .size) (held (now (self .entry) .block)) (now (self .entry) .at)) (now (line .entry))) tt ⌝ }
+        ensures draft { λ _. ⌜ draftOf (L·Layout .lines) (L·Layout .size) (held (now (self .exit) .block)) (now (self .exit) .at) ≡ left (addRefusal (draftOf (L·Layout .lines) (L·Layout .size) (held (now (self .entry) .block)) (now (self .entry) .at)) (limitsOf (L·Layout .size) (held (now (self .entry) .block)) (now (self .entry) .at)) (now (line .entry))) (Some (draftLines (draftOf (L·Layout .lines) (L·Layout .size) (held (now (self .entry) .block)) (now (self .entry) .at)) ++ (now (line .entry) ∷ []))) (draftOf (L·Layout .lines) (L·Layout .size) (held (now (self .entry) .block)) (now (self .entry) .at)) ⌝ }
+        ensures list { λ _. ⌜ listOf (L·Layout .lines) (L·Layout .size) (held (now (self .exit) .block)) (now (self .exit) .at) ≡ listOf (L·Layout .lines) (L·Layout .size) (held (now (self .entry) .block)) (now (self .entry) .at) ⌝ }
+        ensures health { λ _. ⌜ healthOf (now (self .exit) .at) ≡ healthOf (now (self .entry) .at) ⌝ }
+        ensures limits { λ _. ⌜ limitsOf (L·Layout .size) (held (now (self .exit) .block)) (now (self .exit) .at) ≡ limitsOf (L·Layout .size) (held (now (self .entry) .block)) (now (self .entry) .at) ⌝ }
+        ensures bottom { λ _. ⌜ L·Layout .kind ≡ L·Layout .kind ⌝ }
+        ensures layout { λ _. ⌜ (LaidOut (L·Layout .laid) (L·Layout .lines) (L·Layout .size) (held (now (self .entry) .block)) (now (self .entry) .at) → LaidOut (L·Layout .laid) (L·Layout .lines) (L·Layout .size) (held (now (self .exit) .block)) (now (self .exit) .at)) ⌝ }
+    {
+        let m = self.at;
+        if !self.stands() || !m.drafted {
+            return Err(Fault::plain(Cause::NoDraft));
+        }
+        if !is_line(line) {
+            return Err(Fault::plain(Cause::NotALine));
+        }
+        let size = L::size(m.lines, m.bytes);
+        let base = base_of(!m.second, size);
+        let end = base + size;
+        let sheet = &mut self.block[base..end];
+        let taken = L::write_line(sheet, m.lines, m.bytes, m.draft, line);
+        if !taken {
+            return Err(Fault::plain(Cause::NoRoom));
+        }
+        self.at = Marks {
+            drafted: true,
+            draft: m.draft + 1,
+            ..m
+        };
+        Ok(())
+    }
+
+    fn look(&self, n: usize, buf: &mut [u8]) -> Result<usize, Fault> {
+        let m = self.at;
+        if !self.stands() || !m.drafted {
+            return Err(Fault::plain(Cause::NoDraft));
+        }
+        let size = L::size(m.lines, m.bytes);
+        let base = base_of(!m.second, size);
+        let end = base + size;
+        let sheet = &self.block[base..end];
+        L::read_line(sheet, m.lines, m.draft, n, buf)
+    }
+
+    fn patch(&mut self, n: usize, line: &[u8]) -> Result<(), Fault>
+        ensures answer { λ r. ⌜ r ≡ verdict (patchRefusal (draftOf (L·Layout .lines) (L·Layout .size) (held (now (self .entry) .block)) (now (self .entry) .at)) n (now (line .entry))) tt ⌝ }
+        ensures draft { λ _. ⌜ draftOf (L·Layout .lines) (L·Layout .size) (held (now (self .exit) .block)) (now (self .exit) .at) ≡ left (patchRefusal (draftOf (L·Layout .lines) (L·Layout .size) (held (now (self .entry) .block)) (now (self .entry) .at)) n (now (line .entry))) (Some (set (draftLines (draftOf (L·Layout .lines) (L·Layout .size) (held (now (self .entry) .block)) (now (self .entry) .at))) (n - 1) (now (line .entry)))) (draftOf (L·Layout .lines) (L·Layout .size) (held (now (self .entry) .block)) (now (self .entry) .at)) ⌝ }
+        ensures list { λ _. ⌜ listOf (L·Layout .lines) (L·Layout .size) (held (now (self .exit) .block)) (now (self .exit) .at) ≡ listOf (L·Layout .lines) (L·Layout .size) (held (now (self .entry) .block)) (now (self .entry) .at) ⌝ }
+        ensures health { λ _. ⌜ healthOf (now (self .exit) .at) ≡ healthOf (now (self .entry) .at) ⌝ }
+        ensures limits { λ _. ⌜ limitsOf (L·Layout .size) (held (now (self .exit) .block)) (now (self .exit) .at) ≡ limitsOf (L·Layout .size) (held (now (self .entry) .block)) (now (self .entry) .at) ⌝ }
+        ensures bottom { λ _. ⌜ L·Layout .kind ≡ L·Layout .kind ⌝ }
+        ensures layout { λ _. ⌜ (LaidOut (L·Layout .laid) (L·Layout .lines) (L·Layout .size) (held (now (self .entry) .block)) (now (self .entry) .at) → LaidOut (L·Layout .laid) (L·Layout .lines) (L·Layout .size) (held (now (self .exit) .block)) (now (self .exit) .at)) ⌝ }
+    {
+        let m = self.at;
+        if !self.stands() || !m.drafted {
+            return Err(Fault::plain(Cause::NoDraft));
+        }
+        if !is_line(line) {
+            return Err(Fault::plain(Cause::NotALine));
+        }
+        if n == 0 || m.draft < n {
+            return Err(Fault::plain(Cause::NoSuchLine));
+        }
+        let size = L::size(m.lines, m.bytes);
+        let base = base_of(!m.second, size);
+        let end = base + size;
+        let sheet = &mut self.block[base..end];
+        let taken = L::change_line(sheet, m.lines, m.draft, n, line);
+        if !taken {
+            return Err(Fault::plain(Cause::OtherLength));
+        }
+        Ok(())
+    }
+
+    fn keep(&mut self) -> Result<(), Fault>
+        ensures answer { λ r. ⌜ r ≡ verdict (keepRefusal (draftOf (L·Layout .lines) (L·Layout .size) (held (now (self .entry) .block)) (now (self .entry) .at))) tt ⌝ }
+        ensures draft { λ _. ⌜ draftOf (L·Layout .lines) (L·Layout .size) (held (now (self .exit) .block)) (now (self .exit) .at) ≡ None ⌝ }
+        ensures list { λ _. ⌜ listOf (L·Layout .lines) (L·Layout .size) (held (now (self .exit) .block)) (now (self .exit) .at) ≡ left (keepRefusal (draftOf (L·Layout .lines) (L·Layout .size) (held (now (self .entry) .block)) (now (self .entry) .at))) (draftLines (draftOf (L·Layout .lines) (L·Layout .size) (held (now (self .entry) .block)) (now (self .entry) .at))) (listOf (L·Layout .lines) (L·Layout .size) (held (now (self .entry) .block)) (now (self .entry) .at)) ⌝ }
+        ensures health { λ _. ⌜ healthOf (now (self .exit) .at) ≡ left (keepRefusal (draftOf (L·Layout .lines) (L·Layout .size) (held (now (self .entry) .block)) (now (self .entry) .at))) 0 (healthOf (now (self .entry) .at)) ⌝ }
+        ensures limits { λ _. ⌜ limitsOf (L·Layout .size) (held (now (self .exit) .block)) (now (self .exit) .at) ≡ limitsOf (L·Layout .size) (held (now (self .entry) .block)) (now (self .entry) .at) ⌝ }
+        ensures bottom { λ _. ⌜ L·Layout .kind ≡ L·Layout .kind ⌝ }
+        ensures layout { λ _. ⌜ (LaidOut (L·Layout .laid) (L·Layout .lines) (L·Layout .size) (held (now (self .entry) .block)) (now (self .entry) .at) → LaidOut (L·Layout .laid) (L·Layout .lines) (L·Layout .size) (held (now (self .exit) .block)) (now (self .exit) .at)) ⌝ }
+    {
+        let m = self.at;
+        if !self.stands() || !m.drafted {
+            return Err(Fault::plain(Cause::NoDraft));
+        }
+        self.at = Marks {
+            second: !m.second,
+            count: m.draft,
+            drafted: false,
+            draft: 0,
+            ..m
+        };
+        Ok(())
+    }
+}
