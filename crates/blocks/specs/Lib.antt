@@ -2,6 +2,7 @@ pub mod Numbers
 pub mod Blocks
 pub mod BlockLaws
 pub mod Laid
+pub mod Stores
 pub mod Packed
 pub mod PackedLaws
 pub mod Indexed

@@ -8,6 +8,8 @@ ghost use Rattle.blocks.specs.IndexedLaws.{indexed-grows, indexed-counted, ind
 use crate::layout::Layout;
 use lines::fault::Cause;
 use lines::fault::Fault;
+use lines::line::LF;
+use lines::line::LONGEST;
 
 // An index of the lines of a sheet, and their text.
 #[derive(Default, Drop)]
@@ -31,7 +33,7 @@ fn span_at(x: &[u8], room: usize, i: usize, p: usize) -> usize
     requires from { ⌜ p ≤ room ⌝ }
     ensures { λ r. ⌜ r ≡ span (now (x .entry)) room i p ⌝ }
 {
-    let n = length_at(x, i, p).min(240);
+    let n = length_at(x, i, p).min(LONGEST);
     n.min(room - p)
 }
 
@@ -52,7 +54,7 @@ fn end_of(x: &[u8], room: usize, n: usize) -> usize
 fn cleaned(b: u8) -> u8
     ensures { λ r. ⌜ r ≡ clean b ⌝ }
 {
-    if b == 10 { 0 } else { b }
+    if b == LF { 0 } else { b }
 }
 
 // Puts line i of the text at the front of the buffer.

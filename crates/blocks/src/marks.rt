@@ -16,7 +16,7 @@ pub struct Marks {
 
 impl Marks {
     // No lines and no draft.
-    pub fn new(lines: usize, bytes: usize) -> Marks
+    pub(crate) fn new(lines: usize, bytes: usize) -> Marks
         ensures { λ r. ⌜ r ≡ fresh lines bytes ⌝ }
     {
         Marks {
@@ -30,7 +30,7 @@ impl Marks {
     }
 
     // Are the counts within the limit of lines?
-    pub fn within(self) -> bool
+    pub(crate) fn within(self) -> bool
         ensures { λ r. ⌜ r ≡ within self ⌝ }
     {
         self.count <= self.lines && self.draft <= self.lines
@@ -38,7 +38,7 @@ impl Marks {
 }
 
 // Where a sheet stands in its block.
-pub fn base_of(second: bool, size: usize) -> usize
+pub(crate) fn base_of(second: bool, size: usize) -> usize
     ensures { λ r. ⌜ r ≡ cond second size 0 ⌝ }
 {
     if second { size } else { 0 }

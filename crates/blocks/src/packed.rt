@@ -6,6 +6,8 @@ ghost use Rattle.blocks.specs.PackedLaws.{packed-grows, packed-counted, packed
 use crate::layout::Layout;
 use lines::fault::Cause;
 use lines::fault::Fault;
+use lines::line::LF;
+use lines::line::LONGEST;
 use lines::line::put_line;
 
 // The lines of a sheet, packed, each ended by LF.
@@ -17,15 +19,15 @@ fn scan(sheet: &[u8], p: usize) -> usize
     requires { ⌜ p ≤ length (now sheet) + 4000 ⌝ }
     ensures { λ r. ⌜ r ≡ reach (now (sheet .entry)) p ⌝ }
 {
-    for k in 0..240 {
+    for k in 0..LONGEST {
         if p + k >= sheet.len() {
             return k;
         }
-        if sheet[p + k] == 10 {
+        if sheet[p + k] == LF {
             return k;
         }
     }
-    240
+    LONGEST
 }
 
 // Where line n starts.
@@ -98,7 +100,7 @@ pub impl Layout for Packed as PackedLayout {
         let e = p + k;
         let d = &mut sheet[p..e];
         d.copy_from_slice(line);
-        sheet[e] = 10;
+        sheet[e] = LF;
         true
     }
 

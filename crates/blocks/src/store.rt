@@ -7,7 +7,8 @@ ghost use denote.Ref.{now as held};
 ghost use Rattle.std.specs.declared.option.Option.the-variants.{Some, None};
 ghost use Rattle.lines.specs.Faults.{verdict, left};
 ghost use Rattle.lines.specs.Lines.{draftLines, beginRefusal, addRefusal, patchRefusal, keepRefusal};
-ghost use Rattle.blocks.specs.Blocks.{fits, stands, listOf, draftOf, limitsOf, healthOf, blockRefusal, Begins, LaidOut};
+ghost use Rattle.blocks.specs.Blocks.{fits, stands, blockRefusal, Begins};
+ghost use Rattle.blocks.specs.Stores.{storeList, storeDraft, storeLimits, storeHealth, StoreLaid};
 ghost use Rattle.blocks.specs.BlockLaws.{list-lawful, draft-lawful, limits-lawful};
 use crate::indexed::Indexed;
 use crate::layout::Layout;
@@ -16,12 +17,12 @@ use crate::marks::base_of;
 use crate::packed::Packed;
 use lines::fault::Cause;
 use lines::fault::Fault;
+use lines::line::MOST_LINES;
 use lines::line::is_line;
 use lines::source::LineSource;
 use lines::store::LineStore;
 
-const MOST_LINES: usize = 4000;
-
+// The most bytes that a store takes, LF not counted.
 const MOST_BYTES: usize = 24000;
 
 // A store over one lent block with two sheets: the current list lies on the one, the draft on the other.
@@ -58,9 +59,9 @@ impl<'a, L: Layout> BlockStore<'a, L> {
 
     // A store with no lines, no draft and health 0; where `check` refuses, its limits are 0.
     pub fn new(block: &'a mut [u8], lines: usize, bytes: usize) -> BlockStore<'a, L>
-        ensures begins { λ r. ⌜ Begins (listOf (L·Layout .lines) (L·Layout .size) (held (r .block)) (r .at)) (draftOf (L·Layout .lines) (L·Layout .size) (held (r .block)) (r .at)) (healthOf (r .at)) ⌝ }
-        ensures limits { λ r. ⌜ limitsOf (L·Layout .size) (held (r .block)) (r .at) ≡ cond (fits (L·Layout .size) lines bytes (length (now (block .entry)))) (lines, bytes) (0, 0) ⌝ }
-        ensures layout { λ r. ⌜ LaidOut (L·Layout .laid) (L·Layout .lines) (L·Layout .size) (held (r .block)) (r .at) ⌝ }
+        ensures begins { λ r. ⌜ Begins (storeList L·Layout r) (storeDraft L·Layout r) (storeHealth r) ⌝ }
+        ensures limits { λ r. ⌜ storeLimits L·Layout r ≡ cond (fits (L·Layout .size) lines bytes (length (now (block .entry)))) (lines, bytes) (0, 0) ⌝ }
+        ensures layout { λ r. ⌜ StoreLaid L·Layout r ⌝ }
     {
         let at = Marks::new(lines, bytes);
         let layout = L::default();
@@ -77,9 +78,9 @@ impl<'a, L: Layout> BlockStore<'a, L> {
 }
 
 pub impl<'a, L: Layout> LineSource for BlockStore<'a, L> as BlockSource {
-    ghost lines = { λ s. listOf (L·Layout .lines) (L·Layout .size) (held (s .block)) (s .at) };
+    ghost lines = { λ s. storeList L·Layout s };
 
-    ghost health = { λ s. healthOf (s .at) };
+    ghost health = { λ s. storeHealth s };
 
     ghost lawful = { λ s. list-lawful (L·Layout .lines) (L·Layout .size) (L·Layout .counted) (L·Layout .lawful) (held (s .block)) (s .at) };
 
@@ -105,9 +106,9 @@ pub impl<'a, L: Layout> LineSource for BlockStore<'a, L> as BlockSource {
 }
 
 pub impl<'a, L: Layout> LineStore for BlockStore<'a, L> as BlockLines {
-    ghost draft = { λ s. draftOf (L·Layout .lines) (L·Layout .size) (held (s .block)) (s .at) };
+    ghost draft = { λ s. storeDraft L·Layout s };
 
-    ghost limits = { λ s. limitsOf (L·Layout .size) (held (s .block)) (s .at) };
+    ghost limits = { λ s. storeLimits L·Layout s };
 
     ghost bottom = { λ _. L·Layout .kind };
 
@@ -130,13 +131,13 @@ pub impl<'a, L: Layout> LineStore for BlockStore<'a, L> as BlockLines {
     }
 
     fn begin(&mut self) -> Result<(), Fault>
-        ensures answer { λ r. ⌜ r ≡ verdict (beginRefusal (limitsOf (L·Layout .size) (held (now (self .entry) .block)) (now (self .entry) .at))) tt ⌝ }
-        ensures draft { λ _. ⌜ draftOf (L·Layout .lines) (L·Layout .size) (held (now (self .exit) .block)) (now (self .exit) .at) ≡ left (beginRefusal (limitsOf (L·Layout .size) (held (now (self .entry) .block)) (now (self .entry) .at))) (Some []) (draftOf (L·Layout .lines) (L·Layout .size) (held (now (self .entry) .block)) (now (self .entry) .at)) ⌝ }
-        ensures list { λ _. ⌜ listOf (L·Layout .lines) (L·Layout .size) (held (now (self .exit) .block)) (now (self .exit) .at) ≡ listOf (L·Layout .lines) (L·Layout .size) (held (now (self .entry) .block)) (now (self .entry) .at) ⌝ }
-        ensures health { λ _. ⌜ healthOf (now (self .exit) .at) ≡ healthOf (now (self .entry) .at) ⌝ }
-        ensures limits { λ _. ⌜ limitsOf (L·Layout .size) (held (now (self .exit) .block)) (now (self .exit) .at) ≡ limitsOf (L·Layout .size) (held (now (self .entry) .block)) (now (self .entry) .at) ⌝ }
+        ensures answer { λ r. ⌜ r ≡ verdict (beginRefusal (storeLimits L·Layout (now (self .entry)))) tt ⌝ }
+        ensures draft { λ _. ⌜ storeDraft L·Layout (now (self .exit)) ≡ left (beginRefusal (storeLimits L·Layout (now (self .entry)))) (Some []) (storeDraft L·Layout (now (self .entry))) ⌝ }
+        ensures list { λ _. ⌜ storeList L·Layout (now (self .exit)) ≡ storeList L·Layout (now (self .entry)) ⌝ }
+        ensures health { λ _. ⌜ storeHealth (now (self .exit)) ≡ storeHealth (now (self .entry)) ⌝ }
+        ensures limits { λ _. ⌜ storeLimits L·Layout (now (self .exit)) ≡ storeLimits L·Layout (now (self .entry)) ⌝ }
         ensures bottom { λ _. ⌜ L·Layout .kind ≡ L·Layout .kind ⌝ }
-        ensures layout { λ _. ⌜ (LaidOut (L·Layout .laid) (L·Layout .lines) (L·Layout .size) (held (now (self .entry) .block)) (now (self .entry) .at) → LaidOut (L·Layout .laid) (L·Layout .lines) (L·Layout .size) (held (now (self .exit) .block)) (now (self .exit) .at)) ⌝ }
+        ensures layout { λ _. ⌜ (StoreLaid L·Layout (now (self .entry)) → StoreLaid L·Layout (now (self .exit))) ⌝ }
     {
         let m = self.at;
         if !self.stands() || m.lines == 0 {
@@ -151,13 +152,13 @@ pub impl<'a, L: Layout> LineStore for BlockStore<'a, L> as BlockLines {
     }
 
     fn add(&mut self, line: &[u8]) -> Result<(), Fault>
-        ensures answer { λ r. ⌜ r ≡ verdict (addRefusal (draftOf (L·Layout .lines) (L·Layout .size) (held (now (self .entry) .block)) (now (self .entry) .at)) (limitsOf (L·Layout .size) (held (now (self .entry) .block)) (now (self .entry) .at)) (now (line .entry))) tt ⌝ }
-        ensures draft { λ _. ⌜ draftOf (L·Layout .lines) (L·Layout .size) (held (now (self .exit) .block)) (now (self .exit) .at) ≡ left (addRefusal (draftOf (L·Layout .lines) (L·Layout .size) (held (now (self .entry) .block)) (now (self .entry) .at)) (limitsOf (L·Layout .size) (held (now (self .entry) .block)) (now (self .entry) .at)) (now (line .entry))) (Some (draftLines (draftOf (L·Layout .lines) (L·Layout .size) (held (now (self .entry) .block)) (now (self .entry) .at)) ++ (now (line .entry) ∷ []))) (draftOf (L·Layout .lines) (L·Layout .size) (held (now (self .entry) .block)) (now (self .entry) .at)) ⌝ }
-        ensures list { λ _. ⌜ listOf (L·Layout .lines) (L·Layout .size) (held (now (self .exit) .block)) (now (self .exit) .at) ≡ listOf (L·Layout .lines) (L·Layout .size) (held (now (self .entry) .block)) (now (self .entry) .at) ⌝ }
-        ensures health { λ _. ⌜ healthOf (now (self .exit) .at) ≡ healthOf (now (self .entry) .at) ⌝ }
-        ensures limits { λ _. ⌜ limitsOf (L·Layout .size) (held (now (self .exit) .block)) (now (self .exit) .at) ≡ limitsOf (L·Layout .size) (held (now (self .entry) .block)) (now (self .entry) .at) ⌝ }
+        ensures answer { λ r. ⌜ r ≡ verdict (addRefusal (storeDraft L·Layout (now (self .entry))) (storeLimits L·Layout (now (self .entry))) (now (line .entry))) tt ⌝ }
+        ensures draft { λ _. ⌜ storeDraft L·Layout (now (self .exit)) ≡ left (addRefusal (storeDraft L·Layout (now (self .entry))) (storeLimits L·Layout (now (self .entry))) (now (line .entry))) (Some (draftLines (storeDraft L·Layout (now (self .entry))) ++ (now (line .entry) ∷ []))) (storeDraft L·Layout (now (self .entry))) ⌝ }
+        ensures list { λ _. ⌜ storeList L·Layout (now (self .exit)) ≡ storeList L·Layout (now (self .entry)) ⌝ }
+        ensures health { λ _. ⌜ storeHealth (now (self .exit)) ≡ storeHealth (now (self .entry)) ⌝ }
+        ensures limits { λ _. ⌜ storeLimits L·Layout (now (self .exit)) ≡ storeLimits L·Layout (now (self .entry)) ⌝ }
         ensures bottom { λ _. ⌜ L·Layout .kind ≡ L·Layout .kind ⌝ }
-        ensures layout { λ _. ⌜ (LaidOut (L·Layout .laid) (L·Layout .lines) (L·Layout .size) (held (now (self .entry) .block)) (now (self .entry) .at) → LaidOut (L·Layout .laid) (L·Layout .lines) (L·Layout .size) (held (now (self .exit) .block)) (now (self .exit) .at)) ⌝ }
+        ensures layout { λ _. ⌜ (StoreLaid L·Layout (now (self .entry)) → StoreLaid L·Layout (now (self .exit))) ⌝ }
     {
         let m = self.at;
         if !self.stands() || !m.drafted {
@@ -195,13 +196,13 @@ pub impl<'a, L: Layout> LineStore for BlockStore<'a, L> as BlockLines {
     }
 
     fn patch(&mut self, n: usize, line: &[u8]) -> Result<(), Fault>
-        ensures answer { λ r. ⌜ r ≡ verdict (patchRefusal (draftOf (L·Layout .lines) (L·Layout .size) (held (now (self .entry) .block)) (now (self .entry) .at)) n (now (line .entry))) tt ⌝ }
-        ensures draft { λ _. ⌜ draftOf (L·Layout .lines) (L·Layout .size) (held (now (self .exit) .block)) (now (self .exit) .at) ≡ left (patchRefusal (draftOf (L·Layout .lines) (L·Layout .size) (held (now (self .entry) .block)) (now (self .entry) .at)) n (now (line .entry))) (Some (set (draftLines (draftOf (L·Layout .lines) (L·Layout .size) (held (now (self .entry) .block)) (now (self .entry) .at))) (n - 1) (now (line .entry)))) (draftOf (L·Layout .lines) (L·Layout .size) (held (now (self .entry) .block)) (now (self .entry) .at)) ⌝ }
-        ensures list { λ _. ⌜ listOf (L·Layout .lines) (L·Layout .size) (held (now (self .exit) .block)) (now (self .exit) .at) ≡ listOf (L·Layout .lines) (L·Layout .size) (held (now (self .entry) .block)) (now (self .entry) .at) ⌝ }
-        ensures health { λ _. ⌜ healthOf (now (self .exit) .at) ≡ healthOf (now (self .entry) .at) ⌝ }
-        ensures limits { λ _. ⌜ limitsOf (L·Layout .size) (held (now (self .exit) .block)) (now (self .exit) .at) ≡ limitsOf (L·Layout .size) (held (now (self .entry) .block)) (now (self .entry) .at) ⌝ }
+        ensures answer { λ r. ⌜ r ≡ verdict (patchRefusal (storeDraft L·Layout (now (self .entry))) n (now (line .entry))) tt ⌝ }
+        ensures draft { λ _. ⌜ storeDraft L·Layout (now (self .exit)) ≡ left (patchRefusal (storeDraft L·Layout (now (self .entry))) n (now (line .entry))) (Some (set (draftLines (storeDraft L·Layout (now (self .entry)))) (n - 1) (now (line .entry)))) (storeDraft L·Layout (now (self .entry))) ⌝ }
+        ensures list { λ _. ⌜ storeList L·Layout (now (self .exit)) ≡ storeList L·Layout (now (self .entry)) ⌝ }
+        ensures health { λ _. ⌜ storeHealth (now (self .exit)) ≡ storeHealth (now (self .entry)) ⌝ }
+        ensures limits { λ _. ⌜ storeLimits L·Layout (now (self .exit)) ≡ storeLimits L·Layout (now (self .entry)) ⌝ }
         ensures bottom { λ _. ⌜ L·Layout .kind ≡ L·Layout .kind ⌝ }
-        ensures layout { λ _. ⌜ (LaidOut (L·Layout .laid) (L·Layout .lines) (L·Layout .size) (held (now (self .entry) .block)) (now (self .entry) .at) → LaidOut (L·Layout .laid) (L·Layout .lines) (L·Layout .size) (held (now (self .exit) .block)) (now (self .exit) .at)) ⌝ }
+        ensures layout { λ _. ⌜ (StoreLaid L·Layout (now (self .entry)) → StoreLaid L·Layout (now (self .exit))) ⌝ }
     {
         let m = self.at;
         if !self.stands() || !m.drafted {
@@ -225,13 +226,13 @@ pub impl<'a, L: Layout> LineStore for BlockStore<'a, L> as BlockLines {
     }
 
     fn keep(&mut self) -> Result<(), Fault>
-        ensures answer { λ r. ⌜ r ≡ verdict (keepRefusal (draftOf (L·Layout .lines) (L·Layout .size) (held (now (self .entry) .block)) (now (self .entry) .at))) tt ⌝ }
-        ensures draft { λ _. ⌜ draftOf (L·Layout .lines) (L·Layout .size) (held (now (self .exit) .block)) (now (self .exit) .at) ≡ None ⌝ }
-        ensures list { λ _. ⌜ listOf (L·Layout .lines) (L·Layout .size) (held (now (self .exit) .block)) (now (self .exit) .at) ≡ left (keepRefusal (draftOf (L·Layout .lines) (L·Layout .size) (held (now (self .entry) .block)) (now (self .entry) .at))) (draftLines (draftOf (L·Layout .lines) (L·Layout .size) (held (now (self .entry) .block)) (now (self .entry) .at))) (listOf (L·Layout .lines) (L·Layout .size) (held (now (self .entry) .block)) (now (self .entry) .at)) ⌝ }
-        ensures health { λ _. ⌜ healthOf (now (self .exit) .at) ≡ left (keepRefusal (draftOf (L·Layout .lines) (L·Layout .size) (held (now (self .entry) .block)) (now (self .entry) .at))) 0 (healthOf (now (self .entry) .at)) ⌝ }
-        ensures limits { λ _. ⌜ limitsOf (L·Layout .size) (held (now (self .exit) .block)) (now (self .exit) .at) ≡ limitsOf (L·Layout .size) (held (now (self .entry) .block)) (now (self .entry) .at) ⌝ }
+        ensures answer { λ r. ⌜ r ≡ verdict (keepRefusal (storeDraft L·Layout (now (self .entry)))) tt ⌝ }
+        ensures draft { λ _. ⌜ storeDraft L·Layout (now (self .exit)) ≡ None ⌝ }
+        ensures list { λ _. ⌜ storeList L·Layout (now (self .exit)) ≡ left (keepRefusal (storeDraft L·Layout (now (self .entry)))) (draftLines (storeDraft L·Layout (now (self .entry)))) (storeList L·Layout (now (self .entry))) ⌝ }
+        ensures health { λ _. ⌜ storeHealth (now (self .exit)) ≡ left (keepRefusal (storeDraft L·Layout (now (self .entry)))) 0 (storeHealth (now (self .entry))) ⌝ }
+        ensures limits { λ _. ⌜ storeLimits L·Layout (now (self .exit)) ≡ storeLimits L·Layout (now (self .entry)) ⌝ }
         ensures bottom { λ _. ⌜ L·Layout .kind ≡ L·Layout .kind ⌝ }
-        ensures layout { λ _. ⌜ (LaidOut (L·Layout .laid) (L·Layout .lines) (L·Layout .size) (held (now (self .entry) .block)) (now (self .entry) .at) → LaidOut (L·Layout .laid) (L·Layout .lines) (L·Layout .size) (held (now (self .exit) .block)) (now (self .exit) .at)) ⌝ }
+        ensures layout { λ _. ⌜ (StoreLaid L·Layout (now (self .entry)) → StoreLaid L·Layout (now (self .exit))) ⌝ }
     {
         let m = self.at;
         if !self.stands() || !m.drafted {

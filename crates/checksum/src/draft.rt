@@ -7,14 +7,14 @@ ghost use Rattle.lines.specs.Faults.{verdict, left};
 ghost use Rattle.lines.specs.Lines.{draftLines, beginRefusal, keepRefusal};
 ghost use Rattle.checksum.specs.Sum.{sumOf};
 ghost use Rattle.checksum.specs.Layer.{rest, layerHealth, above, isOpen, Glanced, limitsAbove};
-use crate::sum::MOST_BYTES;
-use crate::sum::MOST_LINES;
 use crate::sum::SUM_LENGTH;
 use crate::sum::ZERO_LINE;
 use crate::sum::add_line;
 use crate::sum::sum_line;
 use lines::fault::Cause;
 use lines::fault::Fault;
+use lines::line::LONGEST;
+use lines::line::MOST_LINES;
 use lines::source::LineSource;
 use lines::store::LineStore;
 
@@ -30,7 +30,7 @@ fn glance<S: LineStore>(below: &S, n: usize, buf: &mut [u8]) -> Option<usize>
 pub(crate) fn is_open<S: LineStore>(below: &S) -> bool
     ensures { λ r. ⌜ r ≡ isOpen (S·LineStore .draft (now (below .entry))) ⌝ }
 {
-    let mut buf = [0u8; MOST_BYTES];
+    let mut buf = [0u8; LONGEST];
     glance(below, 1, &mut buf).unwrap_or(0) == SUM_LENGTH
 }
 
@@ -38,7 +38,7 @@ pub(crate) fn is_open<S: LineStore>(below: &S) -> bool
 fn sum_draft<S: LineStore>(below: &S) -> u16
     ensures { λ r. ⌜ r ≡ sumOf (rest (draftLines (S·LineStore .draft (now (below .entry))))) ⌝ }
 {
-    let mut buf = [0u8; MOST_BYTES];
+    let mut buf = [0u8; LONGEST];
     let mut total = 0;
     for n in 1..MOST_LINES {
         let Some(len) = glance(below, n + 1, &mut buf) else {

@@ -3,11 +3,11 @@ ghost use Rattle.checksum.specs.Layer.{rest, layerHealth, above, limitsAbove, 
 use crate::draft::begin_below;
 use crate::draft::is_open;
 use crate::draft::keep_below;
-use crate::sum::MOST_LINES;
 use crate::sum::SUM_LENGTH;
 use crate::sum::holds_sum;
 use lines::fault::Cause;
 use lines::fault::Fault;
+use lines::line::MOST_LINES;
 use lines::line::is_line;
 use lines::source::LineSource;
 use lines::store::LineStore;

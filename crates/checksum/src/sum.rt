@@ -5,14 +5,9 @@ ghost use Rattle.std.specs.shelf.Lists.{sum};
 ghost use Rattle.checksum.specs.Sum.{sumOf, marked, KnownSums};
 ghost use Rattle.checksum.specs.Layer.{summed};
 ghost use Rattle.checksum.specs.Change.{ChangeSeen};
+use lines::line::LONGEST;
 use lines::line::fetch;
 use lines::source::LineSource;
-
-// The most lines that a source has.
-pub(crate) const MOST_LINES: usize = 4000;
-
-// The most bytes that a line has.
-pub(crate) const MOST_BYTES: usize = 240;
 
 // The length of the line that holds a sum.
 pub const SUM_LENGTH: usize = 7;
@@ -47,7 +42,7 @@ pub fn holds_sum<S: LineSource>(source: &S) -> bool
     ensures seen { λ _. ⌜ ChangeSeen ⌝ }
 {
     let want = sum_line(sum_after(source, 1));
-    let mut buf = [0u8; MOST_BYTES];
+    let mut buf = [0u8; LONGEST];
     let len = fetch(source, 1, &mut buf);
     buf[..len] == want[..]
 }
@@ -56,7 +51,7 @@ pub fn holds_sum<S: LineSource>(source: &S) -> bool
 fn sum_after<S: LineSource>(source: &S, skipped: usize) -> u16
     ensures { λ r. ⌜ r ≡ sumOf (drop skipped (S·LineSource .lines (now (source .entry)))) ⌝ }
 {
-    let mut buf = [0u8; MOST_BYTES];
+    let mut buf = [0u8; LONGEST];
     let mut total = 0;
     let count = source.count();
     for n in skipped..count {

@@ -7,10 +7,14 @@ use crate::fault::Cause;
 use crate::fault::Fault;
 use crate::source::LineSource;
 
-const LF: u8 = 10;
+// The byte that ends a line of a text.
+pub const LF: u8 = 10;
 
 // The most bytes that a line has.
-const LONGEST: usize = 240;
+pub const LONGEST: usize = 240;
+
+// The most lines that a source has.
+pub const MOST_LINES: usize = 4000;
 
 // Are these bytes a line?
 pub fn is_line(line: &[u8]) -> bool

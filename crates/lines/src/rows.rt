@@ -4,11 +4,8 @@ ghost use lib.ListN.{length, drop};
 ghost use Rattle.lines.specs.Rows.{rows, rowLen, scanned, linesIn, startOf, Marked};
 use crate::fault::Cause;
 use crate::fault::Fault;
-
-const LF: u8 = 10;
-
-// The most bytes that a line has.
-const LONGEST: usize = 240;
+use crate::line::LF;
+use crate::line::LONGEST;
 
 // The first line that is one too many.
 const EXTRA: u16 = 4001;

@@ -13,17 +13,17 @@ ghost use Rattle.lines.specs.Whole.{textOf, textRefusal, firstDifference, fits
 ghost use Rattle.std.specs.shelf.Text.{sameBytes};
 use crate::fault::Cause;
 use crate::fault::Fault;
+use crate::line::LF;
+use crate::line::LONGEST;
 use crate::line::fetch;
 use crate::source::LineSource;
 use crate::store::LineStore;
-
-const LF: u8 = 10;
 
 // The bytes of all lines of a source, LF not counted.
 pub fn total_bytes<S: LineSource>(source: &S) -> usize
     ensures { λ r. ⌜ r ≡ total (S·LineSource .lines (now (source .entry))) ⌝ }
 {
-    let mut buf = [0u8; 240];
+    let mut buf = [0u8; LONGEST];
     let mut bytes = 0;
     let count = source.count();
     for i in 0..count {
@@ -43,7 +43,7 @@ pub fn write_text<S: LineSource>(source: &S, buf: &mut [u8]) -> Result<usize, Fa
     if buf.len() < total_bytes(source) + count {
         return Err(Fault::plain(Cause::BufferTooSmall));
     }
-    let mut line = [0u8; 240];
+    let mut line = [0u8; LONGEST];
     let mut at = 0;
     for i in 0..count {
         let len = fetch(source, i + 1, &mut line);
@@ -68,8 +68,8 @@ fn same_line<A: LineSource, B: LineSource>(a: &A, b: &B, n: usize) -> bool
     requires { ⌜ 1 ≤ n ⌝ }
     ensures { λ r. ⌜ r ≡ sameBytes (lineOf (A·LineSource .lines (now (a .entry))) n) (lineOf (B·LineSource .lines (now (b .entry))) n) ⌝ }
 {
-    let mut left = [0u8; 240];
-    let mut right = [0u8; 240];
+    let mut left = [0u8; LONGEST];
+    let mut right = [0u8; LONGEST];
     let long = fetch(a, n, &mut left);
     let wide = fetch(b, n, &mut right);
     left[0..long] == right[0..wide]
@@ -106,7 +106,7 @@ fn add_all<S: LineSource, D: LineStore>(source: &S, store: &mut D) -> Result<(),
     ensures answer { λ r. ⌜ r ≡ Ok tt ⌝ }
     ensures store { λ _. ⌜ meaning D·LineSource D·LineStore (now (store .exit)) ≡ drafting (S·LineSource .lines (now (source .entry))) (meaning D·LineSource D·LineStore (now (store .entry))) ⌝ }
 {
-    let mut buf = [0u8; 240];
+    let mut buf = [0u8; LONGEST];
     let count = source.count();
     for i in 0..count {
         let len = fetch(source, i + 1, &mut buf);

@@ -20,13 +20,13 @@ returns-then-p-k c =
     let z = scan-stop xs (c .loop-k .k) (inl (omega arith)) in
     omega (arith, c .loop-k .inv)
 
-pub returns-then-sheet-p-eq10 : need.returns-then-sheet-p-eq10
-returns-then-sheet-p-eq10 c =
+pub returns-then-sheet-p-eq-LF : need.returns-then-sheet-p-eq-LF
+returns-then-sheet-p-eq-LF c =
     let s : List ℕ = c .args .sheet .now in
     let xs : List ℕ = take 240 (drop (c .args .p) s) in
     let a = length-take 240 (drop (c .args .p) s) in
     let b = length-drop (c .args .p) s in
-    let z = scan-stop xs (c .loop-k .k) (inr (omega arith, at s (c .args .p) (c .loop-k .k) (c .loop-k-test .taken) ∙ c .if-sheet-p-eq10 .taken)) in
+    let z = scan-stop xs (c .loop-k .k) (inr (omega arith, at s (c .args .p) (c .loop-k .k) (c .loop-k-test .taken) ∙ c .if-sheet-p-eq-LF .taken)) in
     omega (arith, c .loop-k .inv)
 
 pub loop-k-again : need.loop-k-again
@@ -35,7 +35,7 @@ loop-k-again c =
     let xs : List ℕ = take 240 (drop (c .args .p) s) in
     let a = length-take 240 (drop (c .args .p) s) in
     let b = length-drop (c .args .p) s in
-    scan-more xs (c .loop-k .k) (omega arith) (λ e. c .if-sheet-p-eq10 .left (sym (at s (c .args .p) (c .loop-k .k) (c .loop-k-test .taken)) ∙ e)) ∙ c .loop-k .inv
+    scan-more xs (c .loop-k .k) (omega arith) (λ e. c .if-sheet-p-eq-LF .left (sym (at s (c .args .p) (c .loop-k .k) (c .loop-k-test .taken)) ∙ e)) ∙ c .loop-k .inv
 
 pub returns : need.returns
 returns c =
