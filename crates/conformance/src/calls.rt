@@ -13,9 +13,9 @@ use lines::source::LineSource;
 use lines::store::LineStore;
 use lines::text::Text;
 use lines::text::TextSource;
-use lines::whole::store_whole;
-use lines::whole::total_bytes;
 use std::error::AnyError;
+use whole::measure::total_bytes;
+use whole::stored::store_whole;
 
 // One call of a source; false where the line names no such call.
 pub(crate) fn call_source<S: LineSource>(

@@ -1,16 +1,16 @@
 ghost use mathlib.Core.Path.{_≡_};
 ghost use Rattle.lines.specs.Faults.{verdict, left};
 ghost use Rattle.lines.specs.Stores.{meaning, rewritten};
-ghost use Rattle.lines.specs.Whole.{wholeRefusal};
+ghost use Rattle.whole.specs.Whole.{wholeRefusal};
 ghost use Rattle.tablearc.specs.Keeping.{keptAs};
 use crate::report::Kept;
 use checksum::sum::sum_of;
 use lines::fault::Fault;
 use lines::source::LineSource;
 use lines::store::LineStore;
-use lines::whole::first_difference;
-use lines::whole::store_whole;
-use lines::whole::total_bytes;
+use whole::compared::first_difference;
+use whole::measure::total_bytes;
+use whole::stored::store_whole;
 
 // Stores a table in a store, reads it back and compares it line for line. Nothing ever differs.
 pub fn keep_table<S: LineSource, D: LineStore>(table: &S, store: &mut D) -> Result<Kept, Fault>

@@ -16,12 +16,12 @@ use lines::fault::Fault;
 use lines::source::LineSource;
 use lines::text::Text;
 use lines::text::TextSource;
-use lines::whole::total_bytes;
-use lines::whole::write_text;
 use report::print_kept;
 use report::print_refusal;
 use std::error::AnyError;
 use std::io::Read;
+use whole::measure::total_bytes;
+use whole::written::write_text;
 
 // The limits of both stores, and the blocks that these need.
 const LINES: usize = 4000;

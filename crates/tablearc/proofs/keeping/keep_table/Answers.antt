@@ -7,9 +7,9 @@ use Rattle.std.specs.declared.result.Result.the-variants.{Ok}
 use Rattle.lines.specs.Faults.{verdict, left}
 use Rattle.lines.specs.Lines.{Line, total}
 use Rattle.lines.specs.Stores.{Store, meaning, rewritten}
-use Rattle.lines.specs.Whole.{firstDifference}
+use Rattle.whole.specs.Whole.{firstDifference}
 use Rattle.lines.proofs.LineLaws.{accepted-ok}
-use Rattle.lines.proofs.WholeLaws.{no-difference}
+use Rattle.whole.proofs.WholeLaws.{no-difference}
 use Rattle.checksum.specs.Sum.{sumOf}
 use Rattle.tablearc.specs.Keeping.{keptAs}
 use Rattle.tablearc.proofs.keeping.keep_table.Needs as need

@@ -1,0 +1,4 @@
+pub mod compared;
+pub mod measure;
+pub mod stored;
+pub mod written;
