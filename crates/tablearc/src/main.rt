@@ -13,11 +13,14 @@ use checksum::layer::ChecksumSource;
 use checksum::layer::ChecksumStore;
 use keeping::keep_table;
 use lines::fault::Fault;
+use lines::line::LF;
 use lines::source::LineSource;
 use lines::text::Text;
 use lines::text::TextSource;
 use report::print_kept;
 use report::print_refusal;
+use sentences::USAGE;
+use std::env;
 use std::error::AnyError;
 use std::io::Read;
 use whole::measure::total_bytes;
@@ -33,19 +36,25 @@ const IMAGE_BLOCK: usize = 56000;
 const INDEXED_BLOCK: usize = 80000;
 
 fn main(rt: LibcRuntime) -> Result<(), AnyError> {
-    rt.report(run(&rt))
+    if rt.report(run(&rt))? {
+        return Ok(());
+    }
+    Err("refused".into())
 }
 
-fn run(rt: &LibcRuntime) -> Result<(), AnyError> {
+// Keeps the table on standard input; false where it is refused, or where the command has words.
+fn run(rt: &LibcRuntime) -> Result<bool, AnyError> {
+    if env::args(rt)?.count() > 1 {
+        eprintln!(rt, "{USAGE}")?;
+        return Ok(false);
+    }
     let mut bytes = Vec::new(rt.alloc());
     rt.stdin().read_to_end(&mut bytes)?;
-    match keep_both(rt, bytes.as_slice())? {
-        Ok(()) => Ok(()),
-        Err(fault) => {
-            print_refusal(rt, fault)?;
-            Err("the table was refused".into())
-        }
+    if let Err(fault) = keep_both(rt, bytes.as_slice())? {
+        print_refusal(rt, fault)?;
+        return Ok(false);
     }
+    Ok(true)
 }
 
 // Stores the table in a checksum layer over an image and in one over an indexed block, and prints what became of it.
@@ -70,15 +79,17 @@ fn keep_both(rt: &LibcRuntime, bytes: &[u8]) -> Result<Result<(), Fault>, AnyErr
     Ok(Ok(()))
 }
 
-// Writes what lies under a layer as a text, changes its last byte but the line end, and prints the health of both.
+// Writes what lies under a layer as a text, changes one byte of a line in it, and prints the health before and after.
 fn damage_copy<S: LineSource>(rt: &LibcRuntime, below: &S) -> Result<(), AnyError> {
     let size = total_bytes(below).saturating_add(below.count());
     let mut copy = vec![in rt.alloc(); 0u8; size]?;
-    let Ok(len) = write_text(below, copy.as_mut_slice()) else {
+    if write_text(below, copy.as_mut_slice()).is_err() {
         return Err("the copy has no room".into());
-    };
+    }
     let good = Checksum::new(Text::new(copy.as_slice())).health();
-    let at = len.saturating_sub(2);
+    let Some(at) = last_in_line(copy.as_slice()) else {
+        return Err("the copy is empty".into());
+    };
     let Some(byte) = copy.get_mut(at) else {
         return Err("the copy is empty".into());
     };
@@ -86,7 +97,18 @@ fn damage_copy<S: LineSource>(rt: &LibcRuntime, below: &S) -> Result<(), AnyErro
     let bad = Checksum::new(Text::new(copy.as_slice())).health();
     println!(
         rt,
-        "a copy of {len} bytes: health {good}; with byte {at} changed: health {bad}"
+        "a copy of {size} bytes: health {good}; with byte {at} changed: health {bad}"
     )?;
     Ok(())
+}
+
+// The place of the last byte that is no line end.
+fn last_in_line(bytes: &[u8]) -> Option<usize> {
+    let mut last = None;
+    for (i, byte) in bytes.iter().enumerate() {
+        if *byte != LF {
+            last = Some(i);
+        }
+    }
+    last
 }

@@ -1,5 +1,10 @@
 use lines::fault::Cause;
 
+// How the program is called.
+pub(crate) const USAGE: &str = "usage: tablearc < TABLE
+Stores the table on standard input, one line for each motor or valve, in two stores,
+reads it back, compares it line for line, and shows that a damaged copy is found out.";
+
 // What a refusal means, in a plain sentence.
 pub(crate) fn sentence(cause: Cause) -> &'static str {
     match cause {
