@@ -5,6 +5,7 @@ ghost use Rattle.lines.specs.Faults.{verdict, left};
 ghost use Rattle.lines.specs.Lines.{fronted, putRefusal};
 ghost use Rattle.blocks.specs.Indexed.{clean, lengthAt, span, ends, lineAt, indexedLines, indexedSize, IndexedLaid};
 ghost use Rattle.blocks.specs.IndexedLaws.{indexed-grows, indexed-counted, indexed-lawful, indexed-laid, indexed-kind};
+use crate::layout::Inside;
 use crate::layout::Layout;
 use lines::fault::Cause;
 use lines::fault::Fault;
@@ -15,63 +16,63 @@ use lines::line::LONGEST;
 #[derive(Default, Drop)]
 pub struct Indexed;
 
-// The length that index entry i gives to a line that starts at p.
-fn length_at(x: &[u8], i: usize, p: usize) -> usize
-    requires { ⌜ 4 * i + 3 < length (now x) ⌝ }
-    ensures { λ r. ⌜ r ≡ lengthAt (now (x .entry)) i p ⌝ }
+// The length that index entry `row`, counted from 0, gives to a line that starts at `start`.
+fn length_at(index: &[u8], row: usize, start: usize) -> usize
+    requires { ⌜ 4 * row + 3 < length (now index) ⌝ }
+    ensures { λ r. ⌜ r ≡ lengthAt (now (index .entry)) row start ⌝ }
 {
-    let start = x[4 * i] as usize + 256 * (x[4 * i + 1] as usize);
-    if start != p {
+    let given = index[4 * row] as usize + 256 * (index[4 * row + 1] as usize);
+    if given != start {
         return 0;
     }
-    x[4 * i + 2] as usize + 256 * (x[4 * i + 3] as usize)
+    index[4 * row + 2] as usize + 256 * (index[4 * row + 3] as usize)
 }
 
-// The length of line i, which starts at p.
-fn span_at(x: &[u8], room: usize, i: usize, p: usize) -> usize
-    requires index { ⌜ 4 * i + 3 < length (now x) ⌝ }
-    requires from { ⌜ p ≤ room ⌝ }
-    ensures { λ r. ⌜ r ≡ span (now (x .entry)) room i p ⌝ }
+// The length of line `row`, counted from 0, which starts at `start`.
+fn span_at(index: &[u8], room: usize, row: usize, start: usize) -> usize
+    requires index { ⌜ 4 * row + 3 < length (now index) ⌝ }
+    requires from { ⌜ start ≤ room ⌝ }
+    ensures { λ r. ⌜ r ≡ span (now (index .entry)) room row start ⌝ }
 {
-    let n = length_at(x, i, p).min(LONGEST);
-    n.min(room - p)
+    let len = length_at(index, row, start).min(LONGEST);
+    len.min(room - start)
 }
 
-// Where line n starts.
-fn end_of(x: &[u8], room: usize, n: usize) -> usize
-    requires { ⌜ 4 * n ≤ length (now x) ⌝ }
-    ensures is { λ r. ⌜ r ≡ ends (now (x .entry)) room n ⌝ }
+// Where the line behind the first `count` lines starts.
+fn end_of(index: &[u8], room: usize, count: usize) -> usize
+    requires { ⌜ 4 * count ≤ length (now index) ⌝ }
+    ensures is { λ r. ⌜ r ≡ ends (now (index .entry)) room count ⌝ }
     ensures within { λ r. ⌜ r ≤ room ⌝ }
 {
-    let mut p = 0;
-    for i in 0..n {
-        p += span_at(x, room, i, p);
+    let mut start = 0;
+    for row in 0..count {
+        start += span_at(index, room, row, start);
     }
-    p
+    start
 }
 
 // A byte of a line: a stray LF is read as 0.
-fn cleaned(b: u8) -> u8
-    ensures { λ r. ⌜ r ≡ clean b ⌝ }
+fn cleaned(byte: u8) -> u8
+    ensures { λ r. ⌜ r ≡ clean byte ⌝ }
 {
-    if b == LF { 0 } else { b }
+    if byte == LF { 0 } else { byte }
 }
 
-// Puts line i of the text at the front of the buffer.
-fn read_at(x: &[u8], t: &[u8], i: usize, buf: &mut [u8]) -> Result<usize, Fault>
-    requires { ⌜ 4 * i + 3 < length (now x) ⌝ }
-    ensures answer { λ r. ⌜ r ≡ verdict (putRefusal (length (lineAt (now (x .entry)) (now (t .entry)) i)) (length (now (buf .entry)))) (length (lineAt (now (x .entry)) (now (t .entry)) i)) ⌝ }
-    ensures bytes { λ _. ⌜ now (buf .exit) ≡ left (putRefusal (length (lineAt (now (x .entry)) (now (t .entry)) i)) (length (now (buf .entry)))) (fronted (lineAt (now (x .entry)) (now (t .entry)) i) (now (buf .entry))) (now (buf .entry)) ⌝ }
+// Puts line `row` of the text, counted from 0, at the front of the buffer.
+fn read_at(index: &[u8], text: &[u8], row: usize, buf: &mut [u8]) -> Result<usize, Fault>
+    requires { ⌜ 4 * row + 3 < length (now index) ⌝ }
+    ensures answer { λ r. ⌜ r ≡ verdict (putRefusal (length (lineAt (now (index .entry)) (now (text .entry)) row)) (length (now (buf .entry)))) (length (lineAt (now (index .entry)) (now (text .entry)) row)) ⌝ }
+    ensures bytes { λ _. ⌜ now (buf .exit) ≡ left (putRefusal (length (lineAt (now (index .entry)) (now (text .entry)) row)) (length (now (buf .entry)))) (fronted (lineAt (now (index .entry)) (now (text .entry)) row) (now (buf .entry))) (now (buf .entry)) ⌝ }
 {
-    let p = end_of(x, t.len(), i);
-    let k = span_at(x, t.len(), i, p);
-    if buf.len() < k {
+    let start = end_of(index, text.len(), row);
+    let len = span_at(index, text.len(), row, start);
+    if buf.len() < len {
         return Err(Fault::plain(Cause::ReadBufferShort));
     }
-    for j in 0..k {
-        buf[j] = cleaned(t[p + j]);
+    for i in 0..len {
+        buf[i] = cleaned(text[start + i]);
     }
-    Ok(k)
+    Ok(len)
 }
 
 pub impl Layout for Indexed as IndexedLayout {
@@ -97,58 +98,73 @@ pub impl Layout for Indexed as IndexedLayout {
         3
     }
 
-    fn size(limit: usize, bytes: usize) -> usize {
+    fn size(_inside: Inside, limit: usize, bytes: usize) -> usize {
         4 * limit + bytes
     }
 
     fn read_line(
+        _inside: Inside,
         sheet: &[u8],
         limit: usize,
-        n: usize,
-        i: usize,
+        count: usize,
+        number: usize,
         buf: &mut [u8],
     ) -> Result<usize, Fault> {
-        if i == 0 || n < i {
+        if number == 0 || count < number {
             return Err(Fault::plain(Cause::NoSuchLine));
         }
-        let m = 4 * limit;
-        let t = &sheet[m..];
-        read_at(sheet, t, i - 1, buf)
+        let text_at = 4 * limit;
+        let text = &sheet[text_at..];
+        read_at(sheet, text, number - 1, buf)
     }
 
-    fn write_line(sheet: &mut [u8], limit: usize, bytes: usize, n: usize, line: &[u8]) -> bool {
-        if n >= limit {
+    fn write_line(
+        _inside: Inside,
+        sheet: &mut [u8],
+        limit: usize,
+        bytes: usize,
+        count: usize,
+        line: &[u8],
+    ) -> bool {
+        if count >= limit {
             return false;
         }
-        let p = end_of(sheet, bytes, n);
-        let k = line.len();
-        if bytes - p < k {
+        let start = end_of(sheet, bytes, count);
+        let len = line.len();
+        if bytes - start < len {
             return false;
         }
-        sheet[4 * n] = (p % 256) as u8;
-        sheet[4 * n + 1] = (p / 256) as u8;
-        sheet[4 * n + 2] = (k % 256) as u8;
-        sheet[4 * n + 3] = (k / 256) as u8;
-        let m = 4 * limit;
-        let a = m + p;
-        let e = a + k;
-        let d = &mut sheet[a..e];
-        d.copy_from_slice(line);
+        sheet[4 * count] = (start % 256) as u8;
+        sheet[4 * count + 1] = (start / 256) as u8;
+        sheet[4 * count + 2] = (len % 256) as u8;
+        sheet[4 * count + 3] = (len / 256) as u8;
+        let text_at = 4 * limit;
+        let from = text_at + start;
+        let end = from + len;
+        let part = &mut sheet[from..end];
+        part.copy_from_slice(line);
         true
     }
 
-    fn change_line(sheet: &mut [u8], limit: usize, _n: usize, i: usize, line: &[u8]) -> bool {
-        let m = 4 * limit;
-        let room = sheet.len() - m;
-        let p = end_of(sheet, room, i - 1);
-        let k = span_at(sheet, room, i - 1, p);
-        if line.len() != k {
+    fn change_line(
+        _inside: Inside,
+        sheet: &mut [u8],
+        limit: usize,
+        _count: usize,
+        number: usize,
+        line: &[u8],
+    ) -> bool {
+        let text_at = 4 * limit;
+        let room = sheet.len() - text_at;
+        let start = end_of(sheet, room, number - 1);
+        let len = span_at(sheet, room, number - 1, start);
+        if line.len() != len {
             return false;
         }
-        let a = m + p;
-        let e = a + k;
-        let d = &mut sheet[a..e];
-        d.copy_from_slice(line);
+        let from = text_at + start;
+        let end = from + len;
+        let part = &mut sheet[from..end];
+        part.copy_from_slice(line);
         true
     }
 }

@@ -9,6 +9,10 @@ ghost use Rattle.lines.specs.Faults.{verdict, left};
 ghost use Rattle.lines.specs.Lines.{isLine, LawfulKind, lineOf, fronted, room, readRefusal};
 use lines::fault::Fault;
 
+// A value that only this crate can make: it keeps the functions of a layout, which require something, to this crate.
+#[derive(Clone, Copy)]
+pub struct Inside;
+
 // How the lines of a sheet lie in its bytes.
 pub trait Layout: Default {
     // The bytes of a sheet, by its limit of lines and its limit of bytes.
@@ -36,48 +40,63 @@ pub trait Layout: Default {
     fn kind() -> u8
         ensures { λ r. ⌜ r ≡ kind ⌝ };
 
-    fn size(limit: usize, bytes: usize) -> usize
+    fn size(_inside: Inside, limit: usize, bytes: usize) -> usize
         requires few { ⌜ limit ≤ 4000 ⌝ }
         requires small { ⌜ bytes ≤ 24000 ⌝ }
         ensures is { λ r. ⌜ r ≡ size limit bytes ⌝ }
         ensures small { λ r. ⌜ r ≤ 40000 ⌝ };
 
-    // Puts line i of the first n of a sheet at the front of the buffer.
+    // Puts line `number`, counted from 1, of the first `count` of a sheet at the front of the buffer.
     fn read_line(
+        _inside: Inside,
         sheet: &[u8],
         limit: usize,
-        n: usize,
-        i: usize,
+        count: usize,
+        number: usize,
         buf: &mut [u8],
     ) -> Result<usize, Fault>
         requires most { ⌜ limit ≤ 4000 ⌝ }
         requires size { ⌜ size limit 0 ≤ length (now sheet) ⌝ }
-        requires few { ⌜ n ≤ limit ⌝ }
-        ensures answer { λ r. ⌜ r ≡ verdict (readRefusal (lines limit (now (sheet .entry)) n) i (length (now (buf .entry)))) (length (lineOf (lines limit (now (sheet .entry)) n) i)) ⌝ }
-        ensures bytes { λ _. ⌜ now (buf .exit) ≡ left (readRefusal (lines limit (now (sheet .entry)) n) i (length (now (buf .entry)))) (fronted (lineOf (lines limit (now (sheet .entry)) n) i) (now (buf .entry))) (now (buf .entry)) ⌝ };
+        requires few { ⌜ count ≤ limit ⌝ }
+        ensures answer { λ r. ⌜ r ≡ verdict (readRefusal (lines limit (now (sheet .entry)) count) number (length (now (buf .entry)))) (length (lineOf (lines limit (now (sheet .entry)) count) number)) ⌝ }
+        ensures bytes { λ _. ⌜ now (buf .exit) ≡ left (readRefusal (lines limit (now (sheet .entry)) count) number (length (now (buf .entry)))) (fronted (lineOf (lines limit (now (sheet .entry)) count) number) (now (buf .entry))) (now (buf .entry)) ⌝ };
 
-    // Puts a line behind the first n of a sheet, where that passes no limit.
-    fn write_line(sheet: &mut [u8], limit: usize, bytes: usize, n: usize, line: &[u8]) -> bool
+    // Puts a line behind the first `count` of a sheet, where that passes no limit.
+    fn write_line(
+        _inside: Inside,
+        sheet: &mut [u8],
+        limit: usize,
+        bytes: usize,
+        count: usize,
+        line: &[u8],
+    ) -> bool
         requires most { ⌜ limit ≤ 4000 ⌝ }
         requires small { ⌜ bytes ≤ 24000 ⌝ }
         requires size { ⌜ length (now sheet) ≡ size limit bytes ⌝ }
-        requires few { ⌜ n ≤ limit ⌝ }
+        requires few { ⌜ count ≤ limit ⌝ }
         requires line { ⌜ isLine (now line) ≡ true ⌝ }
-        ensures answer { λ r. ⌜ r ≡ room (limit, bytes) (lines limit (now (sheet .entry)) n) (now (line .entry)) ⌝ }
-        ensures taken { λ r. ⌜ (r ≡ true → lines limit (now (sheet .exit)) (n + 1) ≡ lines limit (now (sheet .entry)) n ++ (now (line .entry) ∷ [])) ⌝ }
-        ensures layout { λ r. ⌜ (r ≡ true → laid limit (now (sheet .entry)) (lines limit (now (sheet .entry)) n) → laid limit (now (sheet .exit)) (lines limit (now (sheet .exit)) (n + 1))) ⌝ }
+        ensures answer { λ r. ⌜ r ≡ room (limit, bytes) (lines limit (now (sheet .entry)) count) (now (line .entry)) ⌝ }
+        ensures taken { λ r. ⌜ (r ≡ true → lines limit (now (sheet .exit)) (count + 1) ≡ lines limit (now (sheet .entry)) count ++ (now (line .entry) ∷ [])) ⌝ }
+        ensures layout { λ r. ⌜ (r ≡ true → laid limit (now (sheet .entry)) (lines limit (now (sheet .entry)) count) → laid limit (now (sheet .exit)) (lines limit (now (sheet .exit)) (count + 1))) ⌝ }
         ensures kept { λ r. ⌜ (r ≡ false → now (sheet .exit) ≡ now (sheet .entry)) ⌝ };
 
-    // Replaces line i of the first n of a sheet by one of equal length.
-    fn change_line(sheet: &mut [u8], limit: usize, n: usize, i: usize, line: &[u8]) -> bool
+    // Replaces line `number` of the first `count` of a sheet by one of equal length.
+    fn change_line(
+        _inside: Inside,
+        sheet: &mut [u8],
+        limit: usize,
+        count: usize,
+        number: usize,
+        line: &[u8],
+    ) -> bool
         requires most { ⌜ limit ≤ 4000 ⌝ }
         requires size { ⌜ size limit 0 ≤ length (now sheet) ⌝ }
-        requires few { ⌜ n ≤ limit ⌝ }
-        requires from { ⌜ 0 < i ⌝ }
-        requires to { ⌜ i ≤ n ⌝ }
+        requires few { ⌜ count ≤ limit ⌝ }
+        requires from { ⌜ 0 < number ⌝ }
+        requires to { ⌜ number ≤ count ⌝ }
         requires line { ⌜ isLine (now line) ≡ true ⌝ }
-        ensures answer { λ r. ⌜ r ≡ eqb (length (now (line .entry))) (length (lineOf (lines limit (now (sheet .entry)) n) i)) ⌝ }
-        ensures taken { λ r. ⌜ (r ≡ true → lines limit (now (sheet .exit)) n ≡ set (lines limit (now (sheet .entry)) n) (i - 1) (now (line .entry))) ⌝ }
-        ensures layout { λ r. ⌜ (r ≡ true → laid limit (now (sheet .entry)) (lines limit (now (sheet .entry)) n) → laid limit (now (sheet .exit)) (lines limit (now (sheet .exit)) n)) ⌝ }
+        ensures answer { λ r. ⌜ r ≡ eqb (length (now (line .entry))) (length (lineOf (lines limit (now (sheet .entry)) count) number)) ⌝ }
+        ensures taken { λ r. ⌜ (r ≡ true → lines limit (now (sheet .exit)) count ≡ set (lines limit (now (sheet .entry)) count) (number - 1) (now (line .entry))) ⌝ }
+        ensures layout { λ r. ⌜ (r ≡ true → laid limit (now (sheet .entry)) (lines limit (now (sheet .entry)) count) → laid limit (now (sheet .exit)) (lines limit (now (sheet .exit)) count)) ⌝ }
         ensures kept { λ r. ⌜ (r ≡ false → now (sheet .exit) ≡ now (sheet .entry)) ⌝ };
 }

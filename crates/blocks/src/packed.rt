@@ -3,6 +3,7 @@ ghost use Prim.Native.Nat.{_+_, _≤_};
 ghost use lib.ListN.{length};
 ghost use Rattle.blocks.specs.Packed.{reach, stops, packedLines, packedSize, PackedLaid};
 ghost use Rattle.blocks.specs.PackedLaws.{packed-grows, packed-counted, packed-lawful, packed-laid, packed-kind};
+use crate::layout::Inside;
 use crate::layout::Layout;
 use lines::fault::Cause;
 use lines::fault::Fault;
@@ -14,34 +15,34 @@ use lines::line::put_line;
 #[derive(Default, Drop)]
 pub struct Packed;
 
-// The length of the line that starts at p.
-fn scan(sheet: &[u8], p: usize) -> usize
-    requires { ⌜ p ≤ length (now sheet) + 4000 ⌝ }
-    ensures { λ r. ⌜ r ≡ reach (now (sheet .entry)) p ⌝ }
+// The length of the line that starts at `start`.
+fn scan(sheet: &[u8], start: usize) -> usize
+    requires { ⌜ start ≤ length (now sheet) + 4000 ⌝ }
+    ensures { λ r. ⌜ r ≡ reach (now (sheet .entry)) start ⌝ }
 {
-    for k in 0..LONGEST {
-        if p + k >= sheet.len() {
-            return k;
+    for len in 0..LONGEST {
+        if start + len >= sheet.len() {
+            return len;
         }
-        if sheet[p + k] == LF {
-            return k;
+        if sheet[start + len] == LF {
+            return len;
         }
     }
     LONGEST
 }
 
-// Where line n starts.
-fn stop_of(sheet: &[u8], n: usize) -> usize
-    requires { ⌜ n ≤ 4000 ⌝ }
-    ensures is { λ r. ⌜ r ≡ stops (now (sheet .entry)) n ⌝ }
-    ensures within { λ r. ⌜ r ≤ length (now (sheet .entry)) + n ⌝ }
-    ensures above { λ r. ⌜ n ≤ r ⌝ }
+// Where the line behind the first `count` lines starts.
+fn stop_of(sheet: &[u8], count: usize) -> usize
+    requires { ⌜ count ≤ 4000 ⌝ }
+    ensures is { λ r. ⌜ r ≡ stops (now (sheet .entry)) count ⌝ }
+    ensures within { λ r. ⌜ r ≤ length (now (sheet .entry)) + count ⌝ }
+    ensures above { λ r. ⌜ count ≤ r ⌝ }
 {
-    let mut p = 0;
-    for i in 0..n {
-        p += scan(sheet, p) + 1;
+    let mut start = 0;
+    for line in 0..count {
+        start += scan(sheet, start) + 1;
     }
-    p
+    start
 }
 
 pub impl Layout for Packed as PackedLayout {
@@ -67,55 +68,70 @@ pub impl Layout for Packed as PackedLayout {
         2
     }
 
-    fn size(limit: usize, bytes: usize) -> usize {
+    fn size(_inside: Inside, limit: usize, bytes: usize) -> usize {
         limit + bytes
     }
 
     fn read_line(
+        _inside: Inside,
         sheet: &[u8],
         _limit: usize,
-        n: usize,
-        i: usize,
+        count: usize,
+        number: usize,
         buf: &mut [u8],
     ) -> Result<usize, Fault> {
-        if i == 0 || n < i {
+        if number == 0 || count < number {
             return Err(Fault::plain(Cause::NoSuchLine));
         }
-        let p = stop_of(sheet, i - 1);
-        let k = scan(sheet, p);
-        let a = p.min(sheet.len());
-        let e = a + k;
-        put_line(&sheet[a..e], buf)
+        let start = stop_of(sheet, number - 1);
+        let len = scan(sheet, start);
+        let from = start.min(sheet.len());
+        let end = from + len;
+        put_line(&sheet[from..end], buf)
     }
 
-    fn write_line(sheet: &mut [u8], limit: usize, bytes: usize, n: usize, line: &[u8]) -> bool {
-        if n >= limit {
+    fn write_line(
+        _inside: Inside,
+        sheet: &mut [u8],
+        limit: usize,
+        bytes: usize,
+        count: usize,
+        line: &[u8],
+    ) -> bool {
+        if count >= limit {
             return false;
         }
-        let p = stop_of(sheet, n);
-        let k = line.len();
-        if p - n + k > bytes {
+        let start = stop_of(sheet, count);
+        let len = line.len();
+        if start - count + len > bytes {
             return false;
         }
-        let e = p + k;
-        let d = &mut sheet[p..e];
-        d.copy_from_slice(line);
-        sheet[e] = LF;
+        let end = start + len;
+        let part = &mut sheet[start..end];
+        part.copy_from_slice(line);
+        sheet[end] = LF;
         true
     }
 
-    fn change_line(sheet: &mut [u8], _limit: usize, _n: usize, i: usize, line: &[u8]) -> bool {
-        let p = stop_of(sheet, i - 1);
-        let k = scan(sheet, p);
-        if line.len() != k {
+    fn change_line(
+        _inside: Inside,
+        sheet: &mut [u8],
+        _limit: usize,
+        _count: usize,
+        number: usize,
+        line: &[u8],
+    ) -> bool {
+        let start = stop_of(sheet, number - 1);
+        let len = scan(sheet, start);
+        if line.len() != len {
             return false;
         }
-        if k == 0 {
+        if len == 0 {
             return true;
         }
-        let e = p + k;
-        let d = &mut sheet[p..e];
-        d.copy_from_slice(line);
+        let end = start + len;
+        let part = &mut sheet[start..end];
+        part.copy_from_slice(line);
         true
     }
 }

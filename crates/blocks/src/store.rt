@@ -11,19 +11,18 @@ ghost use Rattle.blocks.specs.Blocks.{fits, stands, blockRefusal, Begins};
 ghost use Rattle.blocks.specs.Stores.{storeList, storeDraft, storeLimits, storeHealth, StoreLaid};
 ghost use Rattle.blocks.specs.BlockLaws.{list-lawful, draft-lawful, limits-lawful};
 use crate::indexed::Indexed;
+use crate::layout::Inside;
 use crate::layout::Layout;
 use crate::marks::Marks;
 use crate::marks::base_of;
 use crate::packed::Packed;
 use lines::fault::Cause;
 use lines::fault::Fault;
-use lines::line::MOST_LINES;
 use lines::line::is_line;
 use lines::source::LineSource;
+use lines::source::MOST_LINES;
 use lines::store::LineStore;
-
-// The most bytes that a store takes, LF not counted.
-const MOST_BYTES: usize = 24000;
+use lines::store::MOST_BYTES;
 
 // A store over one lent block with two sheets: the current list lies on the one, the draft on the other.
 #[derive(Drop)]
@@ -44,7 +43,7 @@ impl<'a, L: Layout> BlockStore<'a, L> {
     fn fits(size: usize, lines: usize, bytes: usize) -> bool
         ensures { λ r. ⌜ r ≡ fits (L·Layout .size) lines bytes size ⌝ }
     {
-        lines <= MOST_LINES && bytes <= MOST_BYTES && 2 * L::size(lines, bytes) <= size
+        lines <= MOST_LINES && bytes <= MOST_BYTES && 2 * L::size(Inside, lines, bytes) <= size
     }
 
     // Refuses a block that is short for the limits, and limits above 4,000 or 24,000.
@@ -72,8 +71,8 @@ impl<'a, L: Layout> BlockStore<'a, L> {
     fn stands(&self) -> bool
         ensures { λ r. ⌜ r ≡ stands (L·Layout .size) (held (now (self .entry) .block)) (now (self .entry) .at) ⌝ }
     {
-        let m = self.at;
-        Self::fits(self.block.len(), m.lines, m.bytes) && m.within()
+        let marks = self.at;
+        Self::fits(self.block.len(), marks.lines, marks.bytes) && marks.within()
     }
 }
 
@@ -96,12 +95,12 @@ pub impl<'a, L: Layout> LineSource for BlockStore<'a, L> as BlockSource {
         if !self.stands() {
             return Err(Fault::plain(Cause::NoSuchLine));
         }
-        let m = self.at;
-        let size = L::size(m.lines, m.bytes);
-        let base = base_of(m.second, size);
+        let marks = self.at;
+        let size = L::size(Inside, marks.lines, marks.bytes);
+        let base = base_of(marks.second, size);
         let end = base + size;
         let sheet = &self.block[base..end];
-        L::read_line(sheet, m.lines, m.count, n, buf)
+        L::read_line(Inside, sheet, marks.lines, marks.count, n, buf)
     }
 }
 
@@ -139,14 +138,14 @@ pub impl<'a, L: Layout> LineStore for BlockStore<'a, L> as BlockLines {
         ensures bottom { λ _. ⌜ L·Layout .kind ≡ L·Layout .kind ⌝ }
         ensures layout { λ _. ⌜ (StoreLaid L·Layout (now (self .entry)) → StoreLaid L·Layout (now (self .exit))) ⌝ }
     {
-        let m = self.at;
-        if !self.stands() || m.lines == 0 {
+        let marks = self.at;
+        if !self.stands() || marks.lines == 0 {
             return Err(Fault::plain(Cause::NoRoom));
         }
         self.at = Marks {
             drafted: true,
             draft: 0,
-            ..m
+            ..marks
         };
         Ok(())
     }
@@ -160,39 +159,39 @@ pub impl<'a, L: Layout> LineStore for BlockStore<'a, L> as BlockLines {
         ensures bottom { λ _. ⌜ L·Layout .kind ≡ L·Layout .kind ⌝ }
         ensures layout { λ _. ⌜ (StoreLaid L·Layout (now (self .entry)) → StoreLaid L·Layout (now (self .exit))) ⌝ }
     {
-        let m = self.at;
-        if !self.stands() || !m.drafted {
+        let marks = self.at;
+        if !self.stands() || !marks.drafted {
             return Err(Fault::plain(Cause::NoDraft));
         }
         if !is_line(line) {
             return Err(Fault::plain(Cause::NotALine));
         }
-        let size = L::size(m.lines, m.bytes);
-        let base = base_of(!m.second, size);
+        let size = L::size(Inside, marks.lines, marks.bytes);
+        let base = base_of(!marks.second, size);
         let end = base + size;
         let sheet = &mut self.block[base..end];
-        let taken = L::write_line(sheet, m.lines, m.bytes, m.draft, line);
+        let taken = L::write_line(Inside, sheet, marks.lines, marks.bytes, marks.draft, line);
         if !taken {
             return Err(Fault::plain(Cause::NoRoom));
         }
         self.at = Marks {
             drafted: true,
-            draft: m.draft + 1,
-            ..m
+            draft: marks.draft + 1,
+            ..marks
         };
         Ok(())
     }
 
     fn look(&self, n: usize, buf: &mut [u8]) -> Result<usize, Fault> {
-        let m = self.at;
-        if !self.stands() || !m.drafted {
+        let marks = self.at;
+        if !self.stands() || !marks.drafted {
             return Err(Fault::plain(Cause::NoDraft));
         }
-        let size = L::size(m.lines, m.bytes);
-        let base = base_of(!m.second, size);
+        let size = L::size(Inside, marks.lines, marks.bytes);
+        let base = base_of(!marks.second, size);
         let end = base + size;
         let sheet = &self.block[base..end];
-        L::read_line(sheet, m.lines, m.draft, n, buf)
+        L::read_line(Inside, sheet, marks.lines, marks.draft, n, buf)
     }
 
     fn patch(&mut self, n: usize, line: &[u8]) -> Result<(), Fault>
@@ -204,21 +203,21 @@ pub impl<'a, L: Layout> LineStore for BlockStore<'a, L> as BlockLines {
         ensures bottom { λ _. ⌜ L·Layout .kind ≡ L·Layout .kind ⌝ }
         ensures layout { λ _. ⌜ (StoreLaid L·Layout (now (self .entry)) → StoreLaid L·Layout (now (self .exit))) ⌝ }
     {
-        let m = self.at;
-        if !self.stands() || !m.drafted {
+        let marks = self.at;
+        if !self.stands() || !marks.drafted {
             return Err(Fault::plain(Cause::NoDraft));
         }
         if !is_line(line) {
             return Err(Fault::plain(Cause::NotALine));
         }
-        if n == 0 || m.draft < n {
+        if n == 0 || marks.draft < n {
             return Err(Fault::plain(Cause::NoSuchLine));
         }
-        let size = L::size(m.lines, m.bytes);
-        let base = base_of(!m.second, size);
+        let size = L::size(Inside, marks.lines, marks.bytes);
+        let base = base_of(!marks.second, size);
         let end = base + size;
         let sheet = &mut self.block[base..end];
-        let taken = L::change_line(sheet, m.lines, m.draft, n, line);
+        let taken = L::change_line(Inside, sheet, marks.lines, marks.draft, n, line);
         if !taken {
             return Err(Fault::plain(Cause::OtherLength));
         }
@@ -234,16 +233,16 @@ pub impl<'a, L: Layout> LineStore for BlockStore<'a, L> as BlockLines {
         ensures bottom { λ _. ⌜ L·Layout .kind ≡ L·Layout .kind ⌝ }
         ensures layout { λ _. ⌜ (StoreLaid L·Layout (now (self .entry)) → StoreLaid L·Layout (now (self .exit))) ⌝ }
     {
-        let m = self.at;
-        if !self.stands() || !m.drafted {
+        let marks = self.at;
+        if !self.stands() || !marks.drafted {
             return Err(Fault::plain(Cause::NoDraft));
         }
         self.at = Marks {
-            second: !m.second,
-            count: m.draft,
+            second: !marks.second,
+            count: marks.draft,
             drafted: false,
             draft: 0,
-            ..m
+            ..marks
         };
         Ok(())
     }

@@ -14,8 +14,8 @@ use crate::sum::sum_line;
 use lines::fault::Cause;
 use lines::fault::Fault;
 use lines::line::LONGEST;
-use lines::line::MOST_LINES;
 use lines::source::LineSource;
+use lines::source::MOST_LINES;
 use lines::store::LineStore;
 
 // Looks at draft line n below; the length, if there is such a line.

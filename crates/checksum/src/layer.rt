@@ -7,9 +7,9 @@ use crate::sum::SUM_LENGTH;
 use crate::sum::holds_sum;
 use lines::fault::Cause;
 use lines::fault::Fault;
-use lines::line::MOST_LINES;
 use lines::line::is_line;
 use lines::source::LineSource;
+use lines::source::MOST_LINES;
 use lines::store::LineStore;
 
 // The layer's kind, and its health where the sum does not hold.

@@ -13,9 +13,6 @@ pub const LF: u8 = 10;
 // The most bytes that a line has.
 pub const LONGEST: usize = 240;
 
-// The most lines that a source has.
-pub const MOST_LINES: usize = 4000;
-
 // Are these bytes a line?
 pub fn is_line(line: &[u8]) -> bool
     ensures { λ r. ⌜ r ≡ isLine (now (line .entry)) ⌝ }

@@ -10,9 +10,10 @@ use crate::line::LONGEST;
 // The first line that is one too many.
 const EXTRA: u16 = 4001;
 
-// Every so many rows the place of one is kept, and so many are kept at most.
+// The place of every 64th row is kept.
 const STEP: usize = 64;
 
+// So many places are enough for 4,000 rows.
 pub(crate) const MARKS: usize = 63;
 
 // Where the row that begins at `from` ends: at the next LF, or at the end of the bytes.

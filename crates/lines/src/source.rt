@@ -6,6 +6,9 @@ ghost use Rattle.lines.specs.Faults.{verdict, left};
 ghost use Rattle.lines.specs.Lines.{Lawful, lineOf, fronted, readRefusal};
 use crate::fault::Fault;
 
+// The most lines that a source has.
+pub const MOST_LINES: usize = 4000;
+
 // A list of at most 4,000 lines, and a health: 0, or the kind of the lowest source in the pile that is not whole.
 // None of the calls changes the source.
 pub trait LineSource {

@@ -9,6 +9,9 @@ ghost use Rattle.lines.specs.Lines.{LawfulDraft, LawfulLimits, LawfulKind, lin
 use crate::fault::Fault;
 use crate::source::LineSource;
 
+// The most bytes that a store takes, LF not counted.
+pub const MOST_BYTES: usize = 24000;
+
 // A line source that can be rewritten: it has also a draft, absent or a list of lines, a limit of lines and one of
 // bytes, and the kind of the lowest store in the pile.
 pub trait LineStore: LineSource {

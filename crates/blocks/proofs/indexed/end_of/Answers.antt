@@ -2,9 +2,9 @@ use native.Mathlib.Omega.{arith}
 use Rattle.blocks.proofs.IndexedLaws.{ends-more}
 use Rattle.blocks.proofs.indexed.end_of.Needs as need
 
-pub loop-i-again : need.loop-i-again
-loop-i-again c =
-    let e = ends-more (c .args .x .now) (c .args .room) (c .loop-i .i) in
-    let p = c .loop-i .inv .0 in
-    let s = c .span-at-p .ensures in
+pub loop-row-again : need.loop-row-again
+loop-row-again c =
+    let e = ends-more (c .args .index .now) (c .args .room) (c .loop-row .row) in
+    let p = c .loop-row .inv .0 in
+    let s = c .span-at-start .ensures in
     (cc, omega arith)

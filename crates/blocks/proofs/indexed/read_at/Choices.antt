@@ -4,5 +4,5 @@ use lib.ListN.{take, drop}
 use Rattle.blocks.specs.Indexed.{clean}
 use Rattle.blocks.proofs.indexed.read_at.Given as given
 
-abbrev pub Inv-loop-j : given.InvT-loop-j
-Inv-loop-j l = l .buf ≡ map clean (take (l .j) (drop (l .p) (l .t))) ++ drop (l .j) (l .entry .buf)
+abbrev pub Inv-loop-i : given.InvT-loop-i
+Inv-loop-i l = l .buf ≡ map clean (take (l .i) (drop (l .start) (l .text))) ++ drop (l .i) (l .entry .buf)

@@ -4,5 +4,5 @@ use lib.ListN.{take, drop}
 use Rattle.blocks.specs.Packed.{upto, reach}
 use Rattle.blocks.proofs.packed.scan.Given as given
 
-abbrev pub Inv-loop-k : given.InvT-loop-k
-Inv-loop-k l = l .k + upto (drop (l .k) (take 240 (drop (l .p) (l .sheet)))) ≡ reach (l .sheet) (l .p)
+abbrev pub Inv-loop-len : given.InvT-loop-len
+Inv-loop-len l = l .len + upto (drop (l .len) (take 240 (drop (l .start) (l .sheet)))) ≡ reach (l .sheet) (l .start)

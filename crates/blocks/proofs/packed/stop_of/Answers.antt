@@ -10,17 +10,17 @@ use Rattle.blocks.proofs.packed.stop_of.Needs as need
 step : (s : List ℕ) (i : ℕ) → stops s (i + 1) ≡ stops s i + reach s (stops s i) + 1
 step s i = rw (add-one i) refl
 
-pub add-p : need.add-p
-add-p c = let h = reach-short (c .args .sheet .now) (c .loop-i .p) in let e = c .scan .ensures in omega arith
+pub add-start : need.add-start
+add-start c = let h = reach-short (c .args .sheet .now) (c .loop-line .start) in let e = c .scan .ensures in omega arith
 
-pub add-p-in-loop-i : need.add-p-in-loop-i
-add-p-in-loop-i c = let h = reach-short (c .args .sheet .now) (c .loop-i .p) in let e = c .scan .ensures in omega arith
+pub add-start-in-loop-line : need.add-start-in-loop-line
+add-start-in-loop-line c = let h = reach-short (c .args .sheet .now) (c .loop-line .start) in let e = c .scan .ensures in omega arith
 
-pub loop-i-again : need.loop-i-again
-loop-i-again c =
+pub loop-line-again : need.loop-line-again
+loop-line-again c =
     let s : List ℕ = c .args .sheet .now in
-    let h = reach-le s (c .loop-i .p) in
+    let h = reach-le s (c .loop-line .start) in
     let e = c .scan .ensures in
-    let f = ap (λ p. p + reach s p + 1) (c .loop-i .inv .0) in
-    let g = step s (c .loop-i .i) in
+    let f = ap (λ p. p + reach s p + 1) (c .loop-line .inv .0) in
+    let g = step s (c .loop-line .line) in
     (omega arith, omega arith, omega arith)

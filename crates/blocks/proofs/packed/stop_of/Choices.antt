@@ -4,5 +4,5 @@ use lib.ListN.{length}
 use Rattle.blocks.specs.Packed.{stops}
 use Rattle.blocks.proofs.packed.stop_of.Given as given
 
-abbrev pub Inv-loop-i : given.InvT-loop-i
-Inv-loop-i l = (l .p ≡ stops (l .sheet) (l .i)) × (l .p ≤ length (l .sheet) + l .i) × (l .i ≤ l .p)
+abbrev pub Inv-loop-line : given.InvT-loop-line
+Inv-loop-line l = (l .start ≡ stops (l .sheet) (l .line)) × (l .start ≤ length (l .sheet) + l .line) × (l .line ≤ l .start)

@@ -18,12 +18,12 @@ size-is s limit n i p k z h e f =
     ∙ (ap (λ r. span s r (i - 1) (ends s r (i - 1))) (length-drop (4 * limit) s)
     ∙ sym (f ∙ ap (λ q. span s (length s - 4 * limit) (i - 1) q) e)))
 
-pub returns-then-line-k : need.returns-then-line-k
-returns-then-line-k c =
+pub returns-then-line-len : need.returns-then-line-len
+returns-then-line-len c =
     let s : List ℕ = c .args .sheet .now in
-    let u = size-is s (c .args .limit) (c .args .-n) (c .args .i) (c .end-of-p .result) (c .span-at-k .result) (c .pre .from) (c .pre .to) (c .end-of-p .ensures .is) (c .span-at-k .ensures) in
+    let u = size-is s (c .args .limit) (c .args .-count) (c .args .number) (c .end-of-start .result) (c .span-at-len .result) (c .pre .from) (c .pre .to) (c .end-of-start .ensures .is) (c .span-at-len .ensures) in
     record {
-      answer = sym (ne-eqb _ _ (λ e. c .if-line-k .taken (e ∙ u)));
+      answer = sym (ne-eqb _ _ (λ e. c .if-line-len .taken (e ∙ u)));
       taken = λ e. absurd (false≢true e);
       layout = λ e. absurd (false≢true e);
       kept = λ _. refl;
@@ -32,11 +32,11 @@ returns-then-line-k c =
 pub returns : need.returns
 returns c =
     let s : List ℕ = c .args .sheet .now in
-    let i : ℕ = c .args .i - 1 in
+    let i : ℕ = c .args .number - 1 in
     let r = length-drop (4 * c .args .limit) s in
-    let e = c .end-of-p .ensures .is in
-    let u = size-is s (c .args .limit) (c .args .-n) (c .args .i) (c .end-of-p .result) (c .span-at-k .result) (c .pre .from) (c .pre .to) e (c .span-at-k .ensures) in
-    let w = changed s (c .args .line .now) (c .copy-from-slice .last .self) (c .args .limit) (c .args .-n) i (c .end-of-p .result) (c .span-at-k .result) (e ∙ ap (λ z. ends s z i) (sym r)) (c .span-at-k .ensures ∙ ap (λ z. span s z i (c .end-of-p .result)) (sym r)) (c .copy-from-slice .ensures .after) (omega arith) (c .pre .few) (let h = c .pre .size in omega arith) (omega arith) (c .pre .line) in
+    let e = c .end-of-start .ensures .is in
+    let u = size-is s (c .args .limit) (c .args .-count) (c .args .number) (c .end-of-start .result) (c .span-at-len .result) (c .pre .from) (c .pre .to) e (c .span-at-len .ensures) in
+    let w = changed s (c .args .line .now) (c .copy-from-slice .last .self) (c .args .limit) (c .args .-count) i (c .end-of-start .result) (c .span-at-len .result) (e ∙ ap (λ z. ends s z i) (sym r)) (c .span-at-len .ensures ∙ ap (λ z. span s z i (c .end-of-start .result)) (sym r)) (c .copy-from-slice .ensures .after) (omega arith) (c .pre .few) (let h = c .pre .size in omega arith) (omega arith) (c .pre .line) in
     record {
       answer = sym (eq-eqb _ _ (omega arith));
       taken = λ _. w .taken;

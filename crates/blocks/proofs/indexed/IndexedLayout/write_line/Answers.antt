@@ -18,23 +18,23 @@ used s limit bytes n p z e =
     let r : length (drop (4 * limit) s) ≡ bytes = length-drop (4 * limit) s ∙ omega arith in
     total-walk s (drop (4 * limit) s) n ∙ (ap (λ k. ends s k n) r ∙ sym e)
 
-pub returns-then-n-limit : need.returns-then-n-limit
-returns-then-n-limit c =
+pub returns-then-count-limit : need.returns-then-count-limit
+returns-then-count-limit c =
     let s : List ℕ = c .args .sheet .now in
-    let k = length-walk s (drop (4 * c .args .limit) s) (c .args .n) in
+    let k = length-walk s (drop (4 * c .args .limit) s) (c .args .count) in
     record {
-      answer = sym (and-left (ltb (length (indexedLines (c .args .limit) s (c .args .n))) (c .args .limit)) _ (le-ltb (length (indexedLines (c .args .limit) s (c .args .n))) (c .args .limit) (omega arith)));
+      answer = sym (and-left (ltb (length (indexedLines (c .args .limit) s (c .args .count))) (c .args .limit)) _ (le-ltb (length (indexedLines (c .args .limit) s (c .args .count))) (c .args .limit) (omega arith)));
       taken = λ e. absurd (false≢true e);
       layout = λ e. absurd (false≢true e);
       kept = λ _. refl;
     }
 
-pub returns-then-bytes-p : need.returns-then-bytes-p
-returns-then-bytes-p c =
+pub returns-then-bytes-start : need.returns-then-bytes-start
+returns-then-bytes-start c =
     let s : List ℕ = c .args .sheet .now in
-    let u = used s (c .args .limit) (c .args .bytes) (c .args .n) (c .end-of-p .result) (c .pre .size) (c .end-of-p .ensures .is) in
+    let u = used s (c .args .limit) (c .args .bytes) (c .args .count) (c .end-of-start .result) (c .pre .size) (c .end-of-start .ensures .is) in
     record {
-      answer = sym (and-right (ltb (length (indexedLines (c .args .limit) s (c .args .n))) (c .args .limit)) _ (lt-leb _ _ (omega arith)));
+      answer = sym (and-right (ltb (length (indexedLines (c .args .limit) s (c .args .count))) (c .args .limit)) _ (lt-leb _ _ (omega arith)));
       taken = λ e. absurd (false≢true e);
       layout = λ e. absurd (false≢true e);
       kept = λ _. refl;
@@ -43,13 +43,13 @@ returns-then-bytes-p c =
 pub returns : need.returns
 returns c =
     let s : List ℕ = c .args .sheet .now in
-    let e = c .end-of-p .ensures .is in
+    let e = c .end-of-start .ensures .is in
     let r : length (drop (4 * c .args .limit) s) ≡ c .args .bytes = length-drop (4 * c .args .limit) s ∙ omega arith in
-    let u = used s (c .args .limit) (c .args .bytes) (c .args .n) (c .end-of-p .result) (c .pre .size) e in
-    let k = length-walk s (drop (4 * c .args .limit) s) (c .args .n) in
-    let w = stored s (c .args .line .now) (c .copy-from-slice .last .self) (c .args .limit) (c .args .n) (c .end-of-p .result) (e ∙ ap (λ k. ends s k (c .args .n)) (sym r)) (c .copy-from-slice .ensures .after) (omega arith) (omega arith) (c .pre .line) in
+    let u = used s (c .args .limit) (c .args .bytes) (c .args .count) (c .end-of-start .result) (c .pre .size) e in
+    let k = length-walk s (drop (4 * c .args .limit) s) (c .args .count) in
+    let w = stored s (c .args .line .now) (c .copy-from-slice .last .self) (c .args .limit) (c .args .count) (c .end-of-start .result) (e ∙ ap (λ k. ends s k (c .args .count)) (sym r)) (c .copy-from-slice .ensures .after) (omega arith) (omega arith) (c .pre .line) in
     record {
-      answer = sym (and-from (ltb (length (indexedLines (c .args .limit) s (c .args .n))) (c .args .limit)) _ (lt-ltb (length (indexedLines (c .args .limit) s (c .args .n))) (c .args .limit) (omega arith)) (le-leb (total (indexedLines (c .args .limit) s (c .args .n)) + length (c .args .line .now)) (c .args .bytes) (omega arith)));
+      answer = sym (and-from (ltb (length (indexedLines (c .args .limit) s (c .args .count))) (c .args .limit)) _ (lt-ltb (length (indexedLines (c .args .limit) s (c .args .count))) (c .args .limit) (omega arith)) (le-leb (total (indexedLines (c .args .limit) s (c .args .count)) + length (c .args .line .now)) (c .args .bytes) (omega arith)));
       taken = λ _. w .taken;
       layout = λ _. w .keeps;
       kept = λ e. absurd (true≢false e);

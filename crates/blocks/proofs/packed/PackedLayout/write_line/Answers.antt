@@ -11,24 +11,24 @@ use Rattle.blocks.specs.PackedLaws.{packed-counted}
 use Rattle.blocks.proofs.PackedLaws.{stored, total-packed}
 use Rattle.blocks.proofs.packed.PackedLayout.write_line.Needs as need
 
-pub returns-then-n-limit : need.returns-then-n-limit
-returns-then-n-limit c =
+pub returns-then-count-limit : need.returns-then-count-limit
+returns-then-count-limit c =
     let s : List ℕ = c .args .sheet .now in
-    let k = packed-counted s (c .args .n) in
+    let k = packed-counted s (c .args .count) in
     record {
-      answer = sym (and-left (ltb (length (packedLines s (c .args .n))) (c .args .limit)) _ (le-ltb (length (packedLines s (c .args .n))) (c .args .limit) (omega arith)));
+      answer = sym (and-left (ltb (length (packedLines s (c .args .count))) (c .args .limit)) _ (le-ltb (length (packedLines s (c .args .count))) (c .args .limit) (omega arith)));
       taken = λ e. absurd (false≢true e);
       layout = λ e. absurd (false≢true e);
       kept = λ _. refl;
     }
 
-pub returns-then-p-n : need.returns-then-p-n
-returns-then-p-n c =
+pub returns-then-start-count : need.returns-then-start-count
+returns-then-start-count c =
     let s : List ℕ = c .args .sheet .now in
-    let u = total-packed s (c .args .n) in
-    let e = c .stop-of-p .ensures .is in
+    let u = total-packed s (c .args .count) in
+    let e = c .stop-of-start .ensures .is in
     record {
-      answer = sym (and-right (ltb (length (packedLines s (c .args .n))) (c .args .limit)) _ (lt-leb (total (packedLines s (c .args .n)) + length (c .args .line .now)) (c .args .bytes) (omega arith)));
+      answer = sym (and-right (ltb (length (packedLines s (c .args .count))) (c .args .limit)) _ (lt-leb (total (packedLines s (c .args .count)) + length (c .args .line .now)) (c .args .bytes) (omega arith)));
       taken = λ e. absurd (false≢true e);
       layout = λ e. absurd (false≢true e);
       kept = λ _. refl;
@@ -37,12 +37,12 @@ returns-then-p-n c =
 pub returns : need.returns
 returns c =
     let s : List ℕ = c .args .sheet .now in
-    let u = total-packed s (c .args .n) in
-    let e = c .stop-of-p .ensures .is in
-    let k = packed-counted s (c .args .n) in
-    let w = stored s (c .args .line .now) (c .copy-from-slice .last .self) (c .args .n) (c .stop-of-p .result) e (c .copy-from-slice .ensures .after) (omega arith) (c .pre .line) in
+    let u = total-packed s (c .args .count) in
+    let e = c .stop-of-start .ensures .is in
+    let k = packed-counted s (c .args .count) in
+    let w = stored s (c .args .line .now) (c .copy-from-slice .last .self) (c .args .count) (c .stop-of-start .result) e (c .copy-from-slice .ensures .after) (omega arith) (c .pre .line) in
     record {
-      answer = sym (and-from (ltb (length (packedLines s (c .args .n))) (c .args .limit)) _ (lt-ltb (length (packedLines s (c .args .n))) (c .args .limit) (omega arith)) (le-leb (total (packedLines s (c .args .n)) + length (c .args .line .now)) (c .args .bytes) (omega arith)));
+      answer = sym (and-from (ltb (length (packedLines s (c .args .count))) (c .args .limit)) _ (lt-ltb (length (packedLines s (c .args .count))) (c .args .limit) (omega arith)) (le-leb (total (packedLines s (c .args .count)) + length (c .args .line .now)) (c .args .bytes) (omega arith)));
       taken = λ _. w .taken;
       layout = λ _. w .keeps;
       kept = λ e. absurd (true≢false e);

@@ -18,7 +18,7 @@ returns g c =
     let m = c .args .self .now .at in
     let r = sym (c .if-not-stands .ensures tt) in
     let k : ℕ = sizeOf (g .L·Layout .size) m in
-    let q = ap beginRefusal (limits-at (g .L·Layout .size) b m r) ∙ check-passes _ _ _ (ne-eqb (m .lines) 0 (c .if-m-eq0 .left)) in
+    let q = ap beginRefusal (limits-at (g .L·Layout .size) b m r) ∙ check-passes _ _ _ (ne-eqb (m .lines) 0 (c .if-marks-eq0 .left)) in
     let none = nil-from-length _ (g .L·Layout .counted (m .lines) (sheetOf k b (not (m .second))) 0) in
     let w = leaves-draft (g .L·Layout .laid) (g .L·Layout .lines) (g .L·Layout .size) b m r k refl b r refl 0 (omega arith) _ [] q none (λ _. g .L·Layout .laidNone (m .lines) _) true refl in
     record {

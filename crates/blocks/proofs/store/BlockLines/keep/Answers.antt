@@ -15,7 +15,7 @@ returns g c =
     let lines : Meaning = g .L·Layout .lines in
     let size : Size = g .L·Layout .size in
     let r = sym (c .if-not-stands .ensures tt) in
-    let o = not-false (m .drafted) (c .if-not-m .left) in
+    let o = not-false (m .drafted) (c .if-not-marks .left) in
     let q = ap keepRefusal (draft-at lines size b m r (sizeOf size m) refl o) in
     let e = list-kept lines size b m r o in
     record {

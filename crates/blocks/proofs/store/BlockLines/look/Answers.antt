@@ -14,7 +14,7 @@ returns g c =
     let m = c .args .self .now .at in
     let n : ℕ = c .args .n in
     let buf : List ℕ = c .args .buf .now in
-    let e = sym (draft-part (g .L·Layout .lines) (g .L·Layout .size) b m (sym (c .if-not-stands .ensures tt)) (c .size-size .result) (c .size-size .ensures .is) (c .base-of-base .result) (c .base-of-base .ensures) (not-false (m .drafted) (c .if-not-m .left))) in
+    let e = sym (draft-part (g .L·Layout .lines) (g .L·Layout .size) b m (sym (c .if-not-stands .ensures tt)) (c .size-size .result) (c .size-size .ensures .is) (c .base-of-base .result) (c .base-of-base .ensures) (not-false (m .drafted) (c .if-not-marks .left))) in
     record {
       answer = c .read-line .ensures .answer ∙ ap (λ d. verdict (lookRefusal d n (length buf)) (length (lineOf (draftLines d) n))) e;
       bytes = c .read-line .ensures .bytes ∙ ap (λ d. left (lookRefusal d n (length buf)) (fronted (lineOf (draftLines d) n) buf) buf) e;
