@@ -1,4 +1,8 @@
 -- A block's list, draft and limits are those of a line store, if a sheet's lines are lines. Assumes nothing.
+--
+-- length-firsts, all-firsts   how many lines `firsts` has, and what holds of each
+-- Standing                    what `stands` says, fact by fact; `standing` takes it apart
+-- list-lawful, draft-lawful, limits-lawful   list, draft and limits of a block are those of a line store
 use mathlib.Core.Path.{_≡_, refl, sym, subst, _∙_}
 use mathlib.Core.List.{List, []}
 use mathlib.Core.Bool.{true, not, _&&_}

@@ -8,7 +8,7 @@
 -- lengthAt x i p     the length that index entry i (from 0) gives to a line that starts at p; 0 if it has another start
 -- span x room i p    the length of line i, which starts at p, in a text of `room` bytes: that of the index, at most 240
 --                    and at most what is left
--- ends x room n      where line n starts
+-- ends x room n      where line n, counted from 0, starts: where the one before it ends
 -- clean b            a byte of a line: a stray LF is read as 0
 -- lineAt x t n       line n of the text t
 -- walk x t n         the first n lines

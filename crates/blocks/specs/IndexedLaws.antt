@@ -1,4 +1,6 @@
 -- The lines of an indexed sheet are lines, whatever its bytes are. Assumes nothing.
+--
+-- indexed-grows, indexed-counted, indexed-lawful, indexed-laid, indexed-kind   what a layout has to show, of this one
 use mathlib.Core.Path.{_≡_, refl, ap, _∙_}
 use mathlib.Core.List.{List, [], _∷_, map}
 use mathlib.Core.Bool.{true, false, not}

@@ -1,4 +1,6 @@
 -- The lines of a packed sheet are lines, whatever its bytes are. Assumes nothing.
+--
+-- packed-grows, packed-counted, packed-lawful, packed-laid, packed-kind   what a layout has to show, of this one
 use mathlib.Core.Path.{_≡_, refl, ap, _∙_}
 use mathlib.Core.List.{List, [], _∷_}
 use mathlib.Core.Bool.{true, false, cond, not}

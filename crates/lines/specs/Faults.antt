@@ -2,11 +2,13 @@
 --
 -- numberOf c      the number of the cause c
 -- causes          all causes, by rising number
+-- among cs n      the first of the causes cs with the number n
 -- causeOf n       the cause with the number n (asked only of numbers that a cause has)
 -- plain c         the fault of cause c that names nothing else
 -- placed c p      the fault of cause c that names the place p
 -- layered c k     the fault of cause c that names the layer of kind k
--- Refusal         accepted, or the fault that a call is refused with
+-- Refusal         none, or the fault that a call is refused with
+-- accepted        no refusal
 -- when b f r      one check of a call: refused with f where b holds, else r, the checks after it
 -- verdict r a     what the call answers: a where it is accepted, else the fault
 -- left r new old  what it leaves: `new` where it is accepted, else `old`

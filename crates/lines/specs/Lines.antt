@@ -1,6 +1,7 @@
 -- Lines, and what the calls of a line source and of a line store answer and leave. Assumes nothing.
 --
 -- Line            the bytes of a line, a list of numbers
+-- noLf l          no byte of l is LF (10)
 -- isLine l        at most 240 bytes, none of them LF (10)
 -- Lawful ls       at most 4,000 lines, each a line: so is a source's list
 -- LawfulDraft d   the draft is absent, or such a list
@@ -12,6 +13,7 @@
 -- fronted l buf   the line at the front of the buffer, the rest kept
 -- draftLines d    the lines of a draft; none where it is absent
 -- room lim d l    the line l more in the draft d passes no limit; lim is the pair (lines, bytes)
+-- putRefusal ..   the refusal of putting a line of some length into a buffer
 -- xRefusal ..     the refusal of the call x; its checks stand in their order
 use mathlib.Core.Path.{_≡_}
 use mathlib.Core.List.{List, [], _∷_, _++_}

@@ -1,7 +1,12 @@
 -- Bytes as rows, each ended by LF (the byte 10), and the first row that no line source can have. Assumes nothing.
 --
--- rows bs         the rows: each with its bytes and whether an LF stands after them
+-- Row             a row's bytes, and whether an LF stands after them; `row` makes one
+-- before b rs     the rows rs with one byte more before the first
+-- rows bs         the rows of the bytes bs
+-- wrong n r       the row r cannot be line n
+-- firstWrong n rs the number of the first wrong row, counted from n; 0 for none
 -- wrongRow bs     the number of the first row that is over 240 bytes, is row 4,001 or lacks its LF; 0 for none
+-- rowLen bs       how many bytes stand before the first LF
 -- linesIn bs      the rows' bytes: the lines where no row is wrong
 -- held bs         the bytes that a text source over bs holds: all, or none where a row is wrong
 -- checked bs      what the check before the making answers

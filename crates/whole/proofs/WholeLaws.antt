@@ -100,3 +100,6 @@ module _ (lim : ℕ × ℕ) (ls : List Line) (ok : Lawful ls) (room′ : fits li
 pub no-difference : (n : ℕ) (ls : List Line) → differFrom n ls ls ≡ None
 no-difference n [] = refl
 no-difference n (l ∷ ls) = cond-true _ _ _ (sameBytes-decides l l .1 refl) ∙ no-difference (n + 1) ls
+
+pub never-differ : (ls ms : List Line) → ls ≡ ms → differFrom 1 ls ms ≡ None
+never-differ ls ms same = ap (differFrom 1 ls) (sym same) ∙ no-difference 1 ls

@@ -12,6 +12,7 @@ use lines::source::LineSource;
 pub fn first_difference<A: LineSource, B: LineSource>(a: &A, b: &B) -> Option<usize>
     ensures value { λ r. ⌜ r ≡ firstDifference (A·LineSource .lines (now (a .entry))) (B·LineSource .lines (now (b .entry))) ⌝ }
     ensures equal { λ r. ⌜ (r ≡ None → A·LineSource .lines (now (a .entry)) ≡ B·LineSource .lines (now (b .entry))) ⌝ }
+    ensures none { λ r. ⌜ (A·LineSource .lines (now (a .entry)) ≡ B·LineSource .lines (now (b .entry)) → r ≡ None) ⌝ }
 {
     let left = a.count();
     let right = b.count();
@@ -31,7 +32,7 @@ fn same_line<A: LineSource, B: LineSource>(a: &A, b: &B, n: usize) -> bool
 {
     let mut left = [0u8; LONGEST];
     let mut right = [0u8; LONGEST];
-    let long = fetch(a, n, &mut left);
-    let wide = fetch(b, n, &mut right);
-    left[0..long] == right[0..wide]
+    let left_len = fetch(a, n, &mut left);
+    let right_len = fetch(b, n, &mut right);
+    left[0..left_len] == right[0..right_len]
 }

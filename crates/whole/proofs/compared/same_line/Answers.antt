@@ -14,9 +14,9 @@ returns g c =
     let n = c .args .n in
     let a = lineOf (g .A·LineSource .lines (c .args .a .now)) n in
     let b = lineOf (g .B·LineSource .lines (c .args .b .now)) n in
-    let xs = take (c .fetch-long .result - 0) (c .fetch-long .last .buf) in
-    let ys = take (c .fetch-wide .result - 0) (c .fetch-wide .last .buf) in
-    let left : xs ≡ a = ap (λ k. take k (c .fetch-long .last .buf)) (sub-zero (c .fetch-long .result)) ∙ c .fetch-long .ensures .whole (omega arith) (omega arith) in
-    let right : ys ≡ b = ap (λ k. take k (c .fetch-wide .last .buf)) (sub-zero (c .fetch-wide .result)) ∙ c .fetch-wide .ensures .whole (omega arith) (omega arith) in
+    let xs = take (c .fetch-left-len .result - 0) (c .fetch-left-len .last .buf) in
+    let ys = take (c .fetch-right-len .result - 0) (c .fetch-right-len .last .buf) in
+    let left : xs ≡ a = ap (λ k. take k (c .fetch-left-len .last .buf)) (sub-zero (c .fetch-left-len .result)) ∙ c .fetch-left-len .ensures .whole (omega arith) (omega arith) in
+    let right : ys ≡ b = ap (λ k. take k (c .fetch-right-len .last .buf)) (sub-zero (c .fetch-right-len .result)) ∙ c .fetch-right-len .ensures .whole (omega arith) (omega arith) in
     same-from-decides _ _ (matches-decides xs ys (c .eq .result) (c .eq .ensures)) (sameBytes-decides xs ys)
     ∙ ap (λ l. sameBytes l ys) left ∙ ap (sameBytes a) right
