@@ -126,6 +126,7 @@ pub impl Layout for Packed as PackedLayout {
         if line.len() != len {
             return false;
         }
+        // nothing is written for an empty line, which may lie right behind the sheet
         if len == 0 {
             return true;
         }

@@ -129,6 +129,8 @@ pub impl<'a, L: Layout> LineStore for BlockStore<'a, L> as BlockLines {
         L::kind()
     }
 
+    // The storing calls repeat the clauses of their trait, `bottom` among them, and add `layout`: where list and draft
+    // lie in their sheets as the layout has them, they do so afterwards.
     fn begin(&mut self) -> Result<(), Fault>
         ensures answer { λ r. ⌜ r ≡ verdict (beginRefusal (storeLimits L·Layout (now (self .entry)))) tt ⌝ }
         ensures draft { λ _. ⌜ storeDraft L·Layout (now (self .exit)) ≡ left (beginRefusal (storeLimits L·Layout (now (self .entry)))) (Some []) (storeDraft L·Layout (now (self .entry))) ⌝ }

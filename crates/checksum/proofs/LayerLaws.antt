@@ -16,6 +16,7 @@ use Rattle.std.proofs.shelf.Tests.{cases-bool, cases-lt, eqb-true, eq-eqb, le-l
 use Rattle.lines.specs.declared.fault.Cause.the-variants.{NoSuchLine, NotALine, NoRoom, OtherLength}
 use Rattle.lines.specs.Faults.{Refusal, accepted, plain, when, verdict, left}
 use Rattle.lines.specs.Lines.{Line, isLine, LawfulDraft, lineOf, lacks, fronted, total, room, draftLines, putRefusal, readRefusal, addRefusal, lookRefusal, patchRefusal, keepRefusal}
+use Rattle.lines.specs.Stores.{Store, drafting}
 use Rattle.lines.proofs.LineLaws.{lacks-past, lacks-not, short-of, read-none, read-some, put-fits, patch-is}
 use Rattle.checksum.specs.Layer.{rest, above, isOpen, Glanced, limitsAbove}
 use Rattle.checksum.proofs.SumLaws.{rest-line, length-rest}
@@ -114,6 +115,16 @@ module _ (lim : ℕ × ℕ) (f : Line) (d : List Line) (l : Line) (size : length
       let full : room lim (f ∷ d) l ≡ false = ⊎-elim (λ e. and-left (ltb (length (f ∷ d)) L) (leb (total (f ∷ d) + length l) B) (le-ltb (length (f ∷ d)) L (omega (arith, leb-false 1 L e)))) (λ e. and-right (ltb (length (f ∷ d)) L) (leb (total (f ∷ d) + length l) B) (lt-leb (total (f ∷ d) + length l) B (omega (arith, leb-false 7 B e)))) (and-cases (leb 1 L) (leb 7 B) p) in
       full ∙ sym none ∙ ap (λ k. room k d l) (sym up))
       (cases-bool (leb 1 L && leb 7 B))
+
+-- a store of which a call, that may be refused, changes the draft alone
+draft-left : (q : Refusal) (ls : List Line) (s : Store) → record { lines = s .lines; health = s .health; draft = left q (Some ls) (s .draft); limits = s .limits; bottom = s .bottom } ≡ left q (drafting ls s) s
+draft-left None ls s = refl
+draft-left (Some f) ls s = refl
+
+pub drafted : (q q′ : Refusal) (ls : List Line) (s t : Store) → q ≡ q′ → t .lines ≡ s .lines → t .health ≡ s .health → t .draft ≡ left q (Some ls) (s .draft) → t .limits ≡ s .limits → t .bottom ≡ s .bottom → t ≡ left q′ (drafting ls s) s
+drafted q q′ ls s t same lines health draft limits bottom =
+    (λ i. record { lines = lines i; health = health i; draft = draft i; limits = limits i; bottom = bottom i })
+    ∙ draft-left q ls s ∙ ap (λ k. left k (drafting ls s) s) same
 
 -- add, look and patch below, where there is a draft above
 module _ (D : Option (List Line)) (open′ : isOpen D ≡ true) where

@@ -7,6 +7,9 @@
 -- isOpen d            there is a draft above
 -- Glanced ls n buf r  what a look at line n finds: r is its length and the buffer begins with it, or it is not there
 -- limitsAbove lim     the limits: one line and 7 bytes less, both 0 where that is impossible
+-- rest-lawful         the lines are a line source's where those below are
+-- above-lawful        the draft is a line store's where that below is
+-- limits-lawful       the limits are a line store's where those below are
 use mathlib.Core.Path.{_≡_}
 use mathlib.Core.Bool.{Bool, true, false, cond, _&&_}
 use mathlib.Core.List.{List, [], _∷_}

@@ -1,3 +1,4 @@
 pub mod Sum
 pub mod Layer
 pub mod Change
+pub mod Stores

@@ -1,11 +1,12 @@
 ghost use mathlib.Core.Path.{_≡_};
-ghost use mathlib.Core.List.{[]};
+ghost use mathlib.Core.List.{[], _∷_};
 ghost use Prim.Native.Nat.{_≤_};
 ghost use lib.ListN.{length};
 ghost use Rattle.std.specs.declared.option.Option.the-variants.{Some, None};
 ghost use Rattle.lines.specs.Faults.{verdict, left};
 ghost use Rattle.lines.specs.Lines.{draftLines, beginRefusal, keepRefusal};
-ghost use Rattle.checksum.specs.Sum.{sumOf};
+ghost use Rattle.lines.specs.Stores.{meaning, drafting, rewritten};
+ghost use Rattle.checksum.specs.Sum.{sumOf, marked};
 ghost use Rattle.checksum.specs.Layer.{rest, layerHealth, above, isOpen, Glanced, limitsAbove};
 use crate::sum::SUM_LENGTH;
 use crate::sum::ZERO_LINE;
@@ -57,6 +58,7 @@ pub(crate) fn begin_below<S: LineStore>(below: &mut S) -> Result<(), Fault>
     ensures health { λ _. ⌜ S·LineSource .health (now (below .exit)) ≡ S·LineSource .health (now (below .entry)) ⌝ }
     ensures limits { λ _. ⌜ S·LineStore .limits (now (below .exit)) ≡ S·LineStore .limits (now (below .entry)) ⌝ }
     ensures bottom { λ _. ⌜ S·LineStore .bottom (now (below .exit)) ≡ S·LineStore .bottom (now (below .entry)) ⌝ }
+    ensures below { λ _. ⌜ meaning S·LineSource S·LineStore (now (below .exit)) ≡ left (beginRefusal (limitsAbove (S·LineStore .limits (now (below .entry))))) (drafting (marked 0 ∷ []) (meaning S·LineSource S·LineStore (now (below .entry)))) (meaning S·LineSource S·LineStore (now (below .entry))) ⌝ }
 {
     let (lines, bytes) = below.limits();
     if lines < 2 || bytes < SUM_LENGTH {
@@ -74,6 +76,7 @@ pub(crate) fn keep_below<S: LineStore>(below: &mut S) -> Result<(), Fault>
     ensures health { λ _. ⌜ layerHealth (S·LineSource .health (now (below .exit))) (S·LineSource .lines (now (below .exit))) ≡ left (keepRefusal (above (S·LineStore .draft (now (below .entry))))) 0 (layerHealth (S·LineSource .health (now (below .entry))) (S·LineSource .lines (now (below .entry)))) ⌝ }
     ensures limits { λ _. ⌜ S·LineStore .limits (now (below .exit)) ≡ S·LineStore .limits (now (below .entry)) ⌝ }
     ensures bottom { λ _. ⌜ S·LineStore .bottom (now (below .exit)) ≡ S·LineStore .bottom (now (below .entry)) ⌝ }
+    ensures below { λ _. ⌜ meaning S·LineSource S·LineStore (now (below .exit)) ≡ left (keepRefusal (above (S·LineStore .draft (now (below .entry))))) (rewritten (marked (sumOf (draftLines (above (S·LineStore .draft (now (below .entry)))))) ∷ draftLines (above (S·LineStore .draft (now (below .entry))))) (meaning S·LineSource S·LineStore (now (below .entry)))) (meaning S·LineSource S·LineStore (now (below .entry))) ⌝ }
 {
     if !is_open(below) {
         return Err(Fault::plain(Cause::NoDraft));

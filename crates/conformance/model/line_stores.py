@@ -174,6 +174,11 @@ class Layer:
     def add(self, line):
         if self.draft() is None:
             raise Refused(36)
+        if not is_line(line):
+            raise Refused(33)
+        lines, bytes_ = self.limits()
+        if len(self.draft()) + 1 > lines or sum(map(len, self.draft())) + len(line) > bytes_:
+            raise Refused(34)
         self.below.add(line)
 
     def patch(self, n, line):
@@ -183,6 +188,8 @@ class Layer:
             raise Refused(33)
         if not 1 <= n <= len(self.draft()):
             raise Refused(31)
+        if len(line) != len(self.draft()[n - 1]):
+            raise Refused(35)
         self.below.patch(n + 1, line)
 
     def keep(self):
@@ -204,16 +211,20 @@ def sum_line(rows):
 
 
 def read(rows, n, space):
+    """What is printed of a read: its answer, and the whole buffer."""
     buf = bytearray(b"." * space)
+    number = 0
     if rows is None:
-        raise Refused(36)
-    if not 1 <= n <= len(rows):
-        raise Refused(31)
+        number = 36
+    elif not 1 <= n <= len(rows):
+        number = 31
+    elif len(rows[n - 1]) > space:
+        number = 32
+    if number:
+        return "? %d 0 0 0\n  %s" % (number, shown(buf))
     line = rows[n - 1]
-    if len(line) > space:
-        raise Refused(32)
     buf[: len(line)] = line
-    return len(line), bytes(buf)
+    return "ok %d %s" % (len(line), shown(buf))
 
 
 def bytes_of(words):
@@ -279,14 +290,10 @@ def call(pile, words):
         return str(sum(map(len, pile.list())))
     if name == "sum":
         return shown(sum_line(pile.list()))
-    if name == "read":
-        return "%d %s" % tuple_shown(read(pile.list(), int(rest[0]), int(rest[1])))
     if name == "limits":
         return "%d %d" % pile.limits()
     if name == "bottom":
         return str(pile.bottom())
-    if name == "look":
-        return "%d %s" % tuple_shown(read(pile.draft(), int(rest[0]), int(rest[1])))
     if name == "begin":
         pile.begin()
     elif name == "add":
@@ -306,10 +313,6 @@ def call(pile, words):
     return None
 
 
-def tuple_shown(answer):
-    return answer[0], shown(answer[1])
-
-
 def answers(table):
     pile = None
     for line in table:
@@ -322,6 +325,13 @@ def answers(table):
                 if pile.fault is not None:
                     raise pile.fault
                 print("ok " + words[0])
+            elif words[0] == "read":
+                print(read(pile.list(), int(words[1]), int(words[2])))
+            elif words[0] == "look":
+                print(read(pile.draft(), int(words[1]), int(words[2])))
+            elif words[0] == "layer":
+                pile = Layer(pile)
+                print("ok layer")
             elif words[0] == "block":
                 start, length = int(words[1]), int(words[2])
                 print("ok " + shown(pile.block().memory[start : start + length]))
@@ -362,7 +372,7 @@ def store_call(pick):
     if name in ("look", "read"):
         return "%s %d %d" % (name, pick.randrange(5), pick.choice(SPACES))
     if name == "copy":
-        return " ".join(["copy", str(pick.choice([0, 0, 0, 1]))] + text_words(pick, 4))
+        return " ".join(["copy", str(pick.choice([0, 0, 0, 0, 1, 2]))] + text_words(pick, 4))
     return name
 
 
@@ -381,12 +391,21 @@ def store_case(pick):
         line = store_call(pick)
         yield line
         try_call(pile, line)
+    if pick.randrange(4) == 0:
+        yield "layer"
+        pile = Layer(pile)
+        for _ in range(pick.randrange(1, 8)):
+            line = store_call(pick)
+            yield line
+            try_call(pile, line)
     if pile.fault is None:
         for start, length in pile.block().parts():
             yield "block %d %d" % (start, length)
 
 
 def try_call(pile, line):
+    if line.split()[0] in ("read", "look"):
+        return
     try:
         call(pile, line.split())
     except Refused:

@@ -90,13 +90,14 @@ fn add_many<S: LineStore>(store: &mut S, times: usize, line: &[u8]) -> Result<()
     Ok(())
 }
 
-// Stores a text, or a layer over it, as a whole.
+// Stores a text under so many layers as a whole.
 fn copy_text<S: LineStore>(bytes: &[u8], layers: usize, store: &mut S) -> Result<(), Fault> {
     let text = Text::new(bytes);
-    if layers == 0 {
-        return store_whole(&text, store);
+    match layers {
+        0 => store_whole(&text, store),
+        1 => store_whole(&Checksum::new(text), store),
+        _ => store_whole(&Checksum::new(Checksum::new(text)), store),
     }
-    store_whole(&Checksum::new(text), store)
 }
 
 // The buffer of a read: as many dots as word 2 says.
@@ -110,14 +111,15 @@ fn print_number(rt: &LibcRuntime, n: usize) -> Result<(), AnyError> {
     Ok(())
 }
 
-// Prints what a read answered, and the whole buffer.
+// Prints what a read answered, and the whole buffer, refused or not.
 fn print_read(rt: &LibcRuntime, answer: Result<usize, Fault>, buf: &[u8]) -> Result<(), AnyError> {
+    let text = shown(rt.alloc(), buf)?;
     match answer {
-        Ok(len) => {
-            let text = shown(rt.alloc(), buf)?;
-            println!(rt, "ok {len} {text}")?;
+        Ok(len) => println!(rt, "ok {len} {text}")?,
+        Err(fault) => {
+            print_refusal(rt, fault)?;
+            println!(rt, "  {text}")?;
         }
-        Err(fault) => print_refusal(rt, fault)?,
     }
     Ok(())
 }

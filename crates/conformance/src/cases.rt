@@ -97,35 +97,46 @@ fn pile_up<S: LineStore + Drop>(
     rt: &LibcRuntime,
     rest: &[String],
     layers: usize,
-    mut store: S,
+    store: S,
 ) -> Result<(), AnyError> {
     match layers {
-        0 => use_store(rt, rest, &mut store),
-        1 => use_store(rt, rest, &mut Checksum::new(store)),
-        2 => use_store(rt, rest, &mut Checksum::new(Checksum::new(store))),
-        _ => use_store(
-            rt,
-            rest,
-            &mut Checksum::new(Checksum::new(Checksum::new(store))),
-        ),
+        0 => use_pile(rt, rest, store),
+        1 => use_pile(rt, rest, Checksum::new(store)),
+        2 => use_pile(rt, rest, Checksum::new(Checksum::new(store))),
+        _ => use_pile(rt, rest, Checksum::new(Checksum::new(Checksum::new(store)))),
     }
 }
 
+// The calls on a pile, and those on one layer more once the case puts it on.
+fn use_pile<S: LineStore + Drop>(
+    rt: &LibcRuntime,
+    rest: &[String],
+    mut store: S,
+) -> Result<(), AnyError> {
+    let used = use_store(rt, rest, &mut store)?;
+    if used < rest.len() && word(rest[used].as_str(), 0) == "layer" {
+        println!(rt, "ok layer")?;
+        use_store(rt, &rest[used + 1..], &mut Checksum::new(store))?;
+    }
+    Ok(())
+}
+
+// The calls on a store, up to the next line that is none; how many lines were used.
 fn use_store<S: LineStore>(
     rt: &LibcRuntime,
     rest: &[String],
     store: &mut S,
-) -> Result<(), AnyError> {
-    for text in rest {
+) -> Result<usize, AnyError> {
+    for (i, text) in rest.iter().enumerate() {
         let line = text.as_str();
-        if is_case(line) || word(line, 0) == "block" {
-            return Ok(());
+        if is_case(line) || matches!(word(line, 0), "block" | "layer") {
+            return Ok(i);
         }
         if !call_store(rt, line, store)? {
             known(call_source(rt, line, store)?, line)?;
         }
     }
-    Ok(())
+    Ok(rest.len())
 }
 
 // The parts of the block that the case asks for, once the store has let go of it.

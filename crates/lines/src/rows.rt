@@ -39,6 +39,7 @@ pub(crate) fn scan(bytes: &[u8]) -> Result<usize, Fault>
         let long = end - at > LONGEST;
         let extra = n == EXTRA;
         let open = end >= bytes.len();
+        // a row that is wrong in any way has one place, so the three are one test
         if long | (extra | open) {
             return Err(Fault::at(Cause::TextForm, n));
         }
