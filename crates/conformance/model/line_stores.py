@@ -1,5 +1,5 @@
 #!/usr/bin/env python3
-"""What the line stores answer, written from docs/LINE_STORES.md alone.
+"""What the line stores answer by docs/LINE_STORES.md: a second implementation, by the authors of the first.
 
   line_stores.py answers < TABLE     prints what the program must print for a table of cases
   line_stores.py cases SEED N        prints a table of N cases, made at random
