@@ -1,3 +1,5 @@
+#![tactic(auto)]
+
 pub mod indexed;
 mod layout;
 mod marks;

@@ -1,3 +1,5 @@
+#![tactic(auto)]
+
 mod draft;
 pub mod layer;
 pub mod sum;

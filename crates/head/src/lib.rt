@@ -1,3 +1,5 @@
+#![tactic(auto)]
+
 mod content;
 mod entry;
 pub mod reading;

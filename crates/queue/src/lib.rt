@@ -1,3 +1,5 @@
+#![tactic(auto)]
+
 mod held;
 mod row;
 mod slots;

@@ -1,3 +1,5 @@
+#![tactic(auto)]
+
 pub mod body_record;
 mod calendar;
 pub mod delta_record;

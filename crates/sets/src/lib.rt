@@ -1,3 +1,5 @@
+#![tactic(auto)]
+
 mod set;
 
 pub use set::{SERIALS, SerialSet};

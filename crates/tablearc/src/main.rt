@@ -1,3 +1,5 @@
+#![tactic(auto)]
+
 mod damage;
 mod keeping;
 mod report;

@@ -1,3 +1,5 @@
+#![tactic(auto)]
+
 pub mod hand;
 pub mod laws;
 mod mark;

@@ -1,3 +1,5 @@
+#![tactic(auto)]
+
 pub mod compared;
 pub mod measure;
 pub mod stored;
