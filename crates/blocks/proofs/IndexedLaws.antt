@@ -3,7 +3,7 @@ use Rattle.std.proofs.Common.{◌≡◌, ℕ, zero, suc, ◌+◌, ◌-◌, ◌*�
 use borrow.Rule.Slice.PartMut.{put_mid}
 use Rattle.std.proofs.lemmas.Slice.{drop-put_mid, take-put_mid_below, between-put_mid}
 use Rattle.std.proofs.lemmas.List.{drop-set-lt, drop-drop, get_or-take, get_or-set_same, get_or-set_other, length-set, drop_more, set_at, map_more, append_assoc, append-nil, length-append, take_more_set, length-map, length-take, length-drop, take-take, drop-take}
-use Rattle.std.proofs.lemmas.Bool.{cond_true, eq-eqb, cases_lt, cases_eq, leb-true, and_parts, not-true}
+use Rattle.std.proofs.lemmas.Bool.{cond-true, eq-eqb, cases_lt, cases_eq, leb-true, and_parts, not-true}
 use Rattle.lines.specs.Lines.{Line, no_lf, is_line, total, line_of, fronted}
 use Rattle.blocks.specs.Indexed.{word, clean, length_at, span, ends, line_at, walk, indexed_lines, word_of, index_from, IndexedLaid}
 use Rattle.blocks.specs.IndexedLaws.{length-walk, indexed_counted}
@@ -109,7 +109,7 @@ word_new x n p k h =
     let d : get_or y (4 * n + 2 + 1) 0 ≡ k / 256 = ap (λ j. get_or y j 0) o ∙ get_or-set_same x3 (4 * n + 3) (k / 256) 0 (omega arith) in
     let start : word y (4 * n) ≡ p = omega arith in
     let long : word y (4 * n + 2) ≡ k = omega arith in
-    cond_true (eqb (word y (4 * n)) p) (word y (4 * n + 2)) 0 (eq-eqb (word y (4 * n)) p start) ∙ long
+    cond-true (eqb (word y (4 * n)) p) (word y (4 * n + 2)) 0 (eq-eqb (word y (4 * n)) p start) ∙ long
 
 pub drop_entry : (s : List ℕ) (m n a b c d : ℕ) → 4 * n + 3 < m → drop m (entry s n a b c d) ≡ drop m s
 drop_entry s m n a b c d h =

@@ -3,7 +3,7 @@ use Rattle.std.proofs.Common.{◌≡◌, ℕ, ◌+◌, ◌-◌, ◌*◌, ◌≤�
 use borrow.Rule.Slice.PartMut.{put_mid}
 use Rattle.std.proofs.lemmas.Slice.{take-put_mid_below, between-put_mid, drop-put_mid}
 use Rattle.std.proofs.lemmas.List.{take-append-drop, length-take, length-drop, nil_from_length}
-use Rattle.std.proofs.lemmas.Bool.{cond_true, cond_false, and_parts, and_from, and_right, le-leb}
+use Rattle.std.proofs.lemmas.Bool.{cond-true, cond-false, and_parts, and_from, and_right, le-leb}
 use Rattle.lines.specs.declared.fault.Fault.{Fault}
 use Rattle.lines.specs.Faults.{Refusal, accepted, left}
 use Rattle.lines.specs.Lines.{Line, draft_lines}
@@ -68,11 +68,11 @@ module _ (lines : Meaning) (size : Size) (b : List ℕ) (m : Marks) (r : stands 
   both_sheets = let h = st.sheets in omega arith
 
   pub sheet_list : list_of lines size b m ≡ lines m.lines (sheet_of k b m.second) m.count
-  sheet_list = cond_true _ _ _ r ∙ ap (λ n. lines m.lines (sheet_of n b m.second) m.count) (sym is)
+  sheet_list = cond-true _ _ _ r ∙ ap (λ n. lines m.lines (sheet_of n b m.second) m.count) (sym is)
 
   pub draft_at : m.drafted ≡ true → draft_of lines size b m ≡ Some (lines m.lines (sheet_of k b (not m.second)) m.draft)
   draft_at o =
-      cond_true _ _ _ (and_from (stands size b m) m.drafted r o) ∙ ap (λ n. Some (lines m.lines (sheet_of n b (not m.second)) m.draft)) (sym is)
+      cond-true _ _ _ (and_from (stands size b m) m.drafted r o) ∙ ap (λ n. Some (lines m.lines (sheet_of n b (not m.second)) m.draft)) (sym is)
 
   -- the list and the draft by the part that is lent
   pub list_part : (a : ℕ) → a ≡ cond m.second k 0 → list_of lines size b m ≡ lines m.lines (part b k a) m.count
@@ -102,7 +102,7 @@ module _ (lines : Meaning) (size : Size) (b : List ℕ) (m : Marks) (r : stands 
     list_sheet = other b y k a m.second e as_long both_sheets
 
 pub limits_at : (size : Size) (b : List ℕ) (m : Marks) → stands size b m ≡ true → limits_of size b m ≡ (m.lines, m.bytes)
-limits_at size b m r = cond_true _ _ _ r
+limits_at size b m r = cond-true _ _ _ r
 
 -- another draft, of n lines
 pub stands_drafting : (size : Size) (b : List ℕ) (m : Marks) → stands size b m ≡ true → (o : Bool) (n : ℕ) → n ≤ m.lines → stands size b (drafting m o n) ≡ true
@@ -169,7 +169,7 @@ stands_keeping size b m r =
 
 module _ (lines : Meaning) (size : Size) (b : List ℕ) (m : Marks) where
   pub draft_kept : draft_of lines size b (keeping m) ≡ None
-  draft_kept = cond_false _ _ _ (and_right (stands size b (keeping m)) false refl)
+  draft_kept = cond-false _ _ _ (and_right (stands size b (keeping m)) false refl)
 
   pub list_kept : stands size b m ≡ true → m.drafted ≡ true → list_of lines size b (keeping m) ≡ draft_lines (draft_of lines size b m)
   list_kept r o =
@@ -197,7 +197,7 @@ fresh_begins lines size counted b L B =
     let none = nil_from_length _ (counted L (sheet_of (size_of size m) b false) 0) in
     record {
       empty = always (stands size b m) _ none;
-      absent = cond_false _ _ _ (and_right (stands size b m) false refl);
+      absent = cond-false _ _ _ (and_right (stands size b m) false refl);
       whole = refl;
     }
 

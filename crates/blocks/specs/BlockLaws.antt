@@ -8,7 +8,7 @@ use Rattle.std.proofs.Common.{sym, subst, ◌∙◌, ⊎_elim, arith}
 use Rattle.std.specs.List.{AllByRecursion as All}
 use Rattle.std.proofs.lemmas.List.{length_push}
 use Rattle.std.proofs.ByRecursion.{All-push}
-use Rattle.std.proofs.lemmas.Bool.{cases_Bool, and_parts, leb-true, cond_true, cond_false}
+use Rattle.std.proofs.lemmas.Bool.{cases_Bool, and_parts, leb-true, cond-true, cond-false}
 use Rattle.lines.specs.Lines.{Line, is_line, Lawful, LawfulDraft, LawfulLimits}
 use Rattle.blocks.specs.declared.marks.Marks.{Marks}
 use Rattle.blocks.specs.Numbers.{within}
@@ -44,8 +44,8 @@ module _ (lines : Meaning) (size : Size) (size_is : (L : ℕ) (s : List ℕ) (n 
       let s : List ℕ = sheet_of (size_of size m) b m.second in
       ⊎_elim
       (λ h. let st = standing size b m h in
-      subst Lawful (sym (cond_true (stands size b m) (lines m.lines s m.count) [] h)) (let l = size_is m.lines s m.count in let f = st.few in let k = st.counted in omega arith, lines_are m.lines s m.count))
-      (λ h. subst Lawful (sym (cond_false (stands size b m) (lines m.lines s m.count) [] h)) (omega arith, tt))
+      subst Lawful (sym (cond-true (stands size b m) (lines m.lines s m.count) [] h)) (let l = size_is m.lines s m.count in let f = st.few in let k = st.counted in omega arith, lines_are m.lines s m.count))
+      (λ h. subst Lawful (sym (cond-false (stands size b m) (lines m.lines s m.count) [] h)) (omega arith, tt))
       (cases_Bool (stands size b m))
 
   pub draft_lawful : LawfulDraft (draft_of lines size b m)
@@ -54,13 +54,13 @@ module _ (lines : Meaning) (size : Size) (size_is : (L : ℕ) (s : List ℕ) (n 
       let d : List Line = lines m.lines s m.draft in
       ⊎_elim
       (λ h. let st = standing size b m (and_parts (stands size b m) m.drafted h).0 in
-      subst LawfulDraft (sym (cond_true (stands size b m && m.drafted) (Some d) None h)) (let l = size_is m.lines s m.draft in let f = st.few in let k = st.drafts in omega arith, lines_are m.lines s m.draft))
-      (λ h. subst LawfulDraft (sym (cond_false (stands size b m && m.drafted) (Some d) None h)) tt)
+      subst LawfulDraft (sym (cond-true (stands size b m && m.drafted) (Some d) None h)) (let l = size_is m.lines s m.draft in let f = st.few in let k = st.drafts in omega arith, lines_are m.lines s m.draft))
+      (λ h. subst LawfulDraft (sym (cond-false (stands size b m && m.drafted) (Some d) None h)) tt)
       (cases_Bool (stands size b m && m.drafted))
 
 pub limits_lawful : (size : Size) (b : List ℕ) (m : Marks) → LawfulLimits (limits_of size b m)
 limits_lawful size b m =
     ⊎_elim
-    (λ h. let st = standing size b m h in subst LawfulLimits (sym (cond_true (stands size b m) (m.lines, m.bytes) (0, 0) h)) (st.few, st.small))
-    (λ h. subst LawfulLimits (sym (cond_false (stands size b m) (m.lines, m.bytes) (0, 0) h)) (omega arith, omega arith))
+    (λ h. let st = standing size b m h in subst LawfulLimits (sym (cond-true (stands size b m) (m.lines, m.bytes) (0, 0) h)) (st.few, st.small))
+    (λ h. subst LawfulLimits (sym (cond-false (stands size b m) (m.lines, m.bytes) (0, 0) h)) (omega arith, omega arith))
     (cases_Bool (stands size b m))

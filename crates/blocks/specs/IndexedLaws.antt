@@ -5,14 +5,14 @@ use Rattle.std.specs.Prelude.{◌≡◌, ℕ, ◌*◌, ◌≤◌, true, false, n
 use Rattle.std.proofs.Common.{ap, ◌∙◌, ⊎_elim, arith}
 use Rattle.std.specs.List.{AllByRecursion as All}
 use Rattle.std.proofs.lemmas.List.{length-map, length-take}
-use Rattle.std.proofs.lemmas.Bool.{cases_Bool, cond_true, cond_false, and_from, not_from_false, le-leb}
+use Rattle.std.proofs.lemmas.Bool.{cases_Bool, cond-true, cond-false, and_from, not_from_false, le-leb}
 use Rattle.lines.specs.Lines.{no_lf, is_line, LawfulKind}
 use Rattle.blocks.specs.Indexed.{clean, span, ends, line_at, walk, indexed_lines, indexed_size, IndexedLaid}
 use Rattle.blocks.specs.BlockLaws.{length-firsts, all_firsts}
 
 clean_apart : (b : ℕ) → (clean b == 10) ≡ false
 clean_apart b =
-    ⊎_elim (λ e. ap (λ v. nat_eq v 10) (cond_true (b == 10) 0 b e)) (λ e. ap (λ v. nat_eq v 10) (cond_false (b == 10) 0 b e) ∙ e) (cases_Bool (b == 10))
+    ⊎_elim (λ e. ap (λ v. nat_eq v 10) (cond-true (b == 10) 0 b e)) (λ e. ap (λ v. nat_eq v 10) (cond-false (b == 10) 0 b e) ∙ e) (cases_Bool (b == 10))
 
 pub no_lf-clean : (l : List ℕ) → no_lf (map clean l) ≡ true
 no_lf-clean [] = refl

@@ -5,7 +5,7 @@ use Rattle.std.specs.Prelude.{◌≡◌, ℕ, zero, suc, ◌≤◌, true, false,
 use Rattle.std.proofs.Common.{ap, ◌∙◌, ⊎_elim, arith}
 use Rattle.std.specs.List.{AllByRecursion as All}
 use Rattle.std.proofs.lemmas.List.{length-take}
-use Rattle.std.proofs.lemmas.Bool.{cases_Bool, cond_true, cond_false, and_from, not_from_false, le-leb}
+use Rattle.std.proofs.lemmas.Bool.{cases_Bool, cond-true, cond-false, and_from, not_from_false, le-leb}
 use Rattle.lines.specs.Lines.{no_lf, is_line, LawfulKind}
 use Rattle.blocks.specs.Packed.{upto, stops, packed_line, packed_lines, packed_size, PackedLaid}
 use Rattle.blocks.specs.BlockLaws.{length-firsts, all_firsts}
@@ -22,8 +22,8 @@ no_lf-upto zero xs = refl
 no_lf-upto (suc m) [] = refl
 no_lf-upto (suc m) (b ∷ bs) =
     ⊎_elim
-    (λ e. ap (λ k. no_lf (take k (b ∷ bs))) (cond_true (b == 10) 0 (suc (upto (take m bs))) e))
-    (λ e. ap (λ k. no_lf (take k (b ∷ bs))) (cond_false (b == 10) 0 (suc (upto (take m bs))) e) ∙ and_from (not (b == 10)) (no_lf (take (upto (take m bs)) bs)) (not_from_false _ e) (no_lf-upto m bs))
+    (λ e. ap (λ k. no_lf (take k (b ∷ bs))) (cond-true (b == 10) 0 (suc (upto (take m bs))) e))
+    (λ e. ap (λ k. no_lf (take k (b ∷ bs))) (cond-false (b == 10) 0 (suc (upto (take m bs))) e) ∙ and_from (not (b == 10)) (no_lf (take (upto (take m bs)) bs)) (not_from_false _ e) (no_lf-upto m bs))
     (cases_Bool (b == 10))
 
 pub packed_line_is_line : (s : List ℕ) (n : ℕ) → is_line (packed_line s n) ≡ true

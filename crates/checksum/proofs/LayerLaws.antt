@@ -1,8 +1,8 @@
 -- Laws of the lines and the draft above those below. Assumes nothing.
 use Rattle.std.proofs.Common.{◌≡◌, ℕ, suc, ◌+◌, ◌-◌, ◌≤◌, Bool, true, false, cond, not, ◌&&◌, eqb, ltb, leb, List, [], ◌∷◌, ◌++◌, length, drop, set, is_some, Some, None, Option, unwrap_or, sym, refl, ap, ◌∙◌, subst, inr, ⊎_elim, arith, length-append}
 use Rattle.std.specs.Result.{result_ok}
-use Rattle.std.proofs.lemmas.List.{take_at, length-take_le}
-use Rattle.std.proofs.lemmas.Bool.{cases_Bool, cases_lt, eqb-true, eq-eqb, le-leb, lt-leb, lt-ltb, le-ltb, leb-true, leb-false, and_left, and_right, and_parts, and_cases, cond_true, cond_false, both_ways}
+use Rattle.std.proofs.lemmas.List.{take_at, length-take-le}
+use Rattle.std.proofs.lemmas.Bool.{cases_Bool, cases_lt, eqb-true, eq-eqb, le-leb, lt-leb, lt-ltb, le-ltb, leb-true, leb-false, and_left, and_right, and_parts, and_cases, cond-true, cond-false, both_ways}
 use Rattle.lines.specs.declared.fault.Cause.TheVariants.{NoSuchLine, NotALine, NoRoom, OtherLength}
 use Rattle.lines.specs.Faults.{Refusal, accepted, plain, when, verdict, left}
 use Rattle.lines.specs.Lines.{Line, is_line, LawfulDraft, line_of, lacks, fronted, total, room, draft_lines, put_refusal, read_refusal, add_refusal, look_refusal, patch_refusal, keep_refusal}
@@ -43,7 +43,7 @@ glanced D n buf after r ok one big bytes answer = rw (bytes, answer) (finds D n 
 -- is there a draft above?
 seven : (f : Line) (d : List Line) → is_open (Some (f ∷ d)) ≡ true → eqb (length f) 7 ≡ true
 seven f d h =
-    ⊎_elim (λ e. e) (λ e. absurd (both_ways (is_open (Some (f ∷ d))) (ap is_some (cond_false (eqb (length f) 7) (Some d) None e)) h)) (cases_Bool (eqb (length f) 7))
+    ⊎_elim (λ e. e) (λ e. absurd (both_ways (is_open (Some (f ∷ d))) (ap is_some (cond-false (eqb (length f) 7) (Some d) None e)) h)) (cases_Bool (eqb (length f) 7))
 
 flag : (b : Bool) (d : List Line) → b ≡ is_some (cond b (Some d) None)
 flag true d = refl
@@ -56,7 +56,7 @@ open_is (Some []) buf None s = refl
 open_is (Some []) buf (Some len) s = absurd (omega (arith, s.0))
 open_is (Some (f ∷ d)) buf None s = absurd (omega (arith, s))
 open_is (Some (f ∷ d)) buf (Some len) s =
-    ap (λ k. eqb k 7) (sym (length-take_le len buf s.1.0) ∙ ap length s.1.1) ∙ flag (eqb (length f) 7) d
+    ap (λ k. eqb k 7) (sym (length-take-le len buf s.1.0) ∙ ap length s.1.1) ∙ flag (eqb (length f) 7) d
 
 pub draft_few : (D : Option (List Line)) → LawfulDraft D → length (draft_lines D) ≤ 4000
 draft_few None h = omega arith
@@ -75,14 +75,14 @@ opened None h = let z : ◌≡◌ {A = ℕ} 0 1 = cc in absurd (omega arith)
 opened (Some []) h = let z : ◌≡◌ {A = ℕ} 0 1 = cc in absurd (omega arith)
 opened (Some (f ∷ d)) h =
     let e = seven f d h in
-    record { first = f; others = d; is = refl; up = cond_true (eqb (length f) 7) (Some d) None e; size = eqb-true (length f) 7 e }
+    record { first = f; others = d; is = refl; up = cond-true (eqb (length f) 7) (Some d) None e; size = eqb-true (length f) 7 e }
 
 above_left : (q : Refusal) (x y : Option (List Line)) → above (left q x y) ≡ left q (above x) (above y)
 above_left None x y = refl
 above_left (Some f) x y = refl
 
 above_first : (f : Line) (d : List Line) → length f ≡ 7 → above (Some (f ∷ d)) ≡ Some d
-above_first f d e = cond_true (eqb (length f) 7) (Some d) None (eq-eqb (length f) 7 e)
+above_first f d e = cond-true (eqb (length f) 7) (Some d) None (eq-eqb (length f) 7 e)
 
 -- there is room above exactly where there is room below
 module _ (lim : ℕ × ℕ) (f : Line) (d : List Line) (l : Line) (size : length f ≡ 7) where
@@ -95,12 +95,12 @@ module _ (lim : ℕ × ℕ) (f : Line) (d : List Line) (l : Line) (size : length
       let q = and_parts (leb 1 L) (leb 7 B) p in
       let one : 1 ≤ L = leb-true 1 L q.0 in
       let sev : 7 ≤ B = leb-true 7 B q.1 in
-      let up : limits_above lim ≡ (L - 1, B - 7) = cond_true _ _ _ p in
+      let up : limits_above lim ≡ (L - 1, B - 7) = cond-true _ _ _ p in
       let lines : ltb (length (f ∷ d)) L ≡ ltb (length d) (L - 1) = ⊎_elim (λ h. lt-ltb (length (f ∷ d)) L h ∙ sym (lt-ltb (length d) (L - 1) (omega arith))) (λ h. le-ltb (length (f ∷ d)) L h ∙ sym (le-ltb (length d) (L - 1) (omega arith))) (cases_lt (length (f ∷ d)) L) in
       let bytes : leb (total (f ∷ d) + length l) B ≡ leb (total d + length l) (B - 7) = ⊎_elim (λ h. lt-leb (total (f ∷ d) + length l) B h ∙ sym (lt-leb (total d + length l) (B - 7) (omega arith))) (λ h. le-leb (total (f ∷ d) + length l) B h ∙ sym (le-leb (total d + length l) (B - 7) (omega arith))) (cases_lt B (total (f ∷ d) + length l)) in
       (λ i. lines i && bytes i) ∙ ap (λ k. room k d l) (sym up))
       (λ (p : (leb 1 L && leb 7 B) ≡ false).
-      let up : limits_above lim ≡ (0, 0) = cond_false _ _ _ p in
+      let up : limits_above lim ≡ (0, 0) = cond-false _ _ _ p in
       let none : room (0, 0) d l ≡ false = and_left (ltb (length d) 0) (leb (total d + length l) 0) (le-ltb (length d) 0 (omega arith)) in
       let full : room lim (f ∷ d) l ≡ false = ⊎_elim (λ e. and_left (ltb (length (f ∷ d)) L) (leb (total (f ∷ d) + length l) B) (le-ltb (length (f ∷ d)) L (omega (arith, leb-false 1 L e)))) (λ e. and_right (ltb (length (f ∷ d)) L) (leb (total (f ∷ d) + length l) B) (lt-leb (total (f ∷ d) + length l) B (omega (arith, leb-false 7 B e)))) (and_cases (leb 1 L) (leb 7 B) p) in
       full ∙ sym none ∙ ap (λ k. room k d l) (sym up))

@@ -3,7 +3,7 @@ use Rattle.std.proofs.Common.{◌≡◌, ℕ, ◌+◌, ◌-◌, ◌<◌, ◌≤�
 use native.Mathlib.Nat.{sub-zero}
 use Rattle.std.specs.Option.{ok_or}
 use Rattle.std.proofs.lemmas.List.{at_drop_more, at_drop_all}
-use Rattle.std.proofs.lemmas.Bool.{cond_true, cond_false, le-leb}
+use Rattle.std.proofs.lemmas.Bool.{cond-true, cond-false, le-leb}
 use Rattle.lines.specs.declared.fault.Cause.TheVariants.{HeadForm}
 use Rattle.lines.specs.Faults.{placed}
 use Rattle.lines.specs.Lines.{Line, line_of}
@@ -21,10 +21,10 @@ blank =
 
 module _ (es : List Entry) (i : ℕ) (s : Sid) where
   pub serial_more : i < length es → same_sid (get_or es i blank).sid s ≡ false → serial_of (drop i es) s ≡ serial_of (drop (i + 1) es) s
-  serial_more h e = at_drop_more (λ l. serial_of l s) es i blank h ∙ cond_false _ _ _ e
+  serial_more h e = at_drop_more (λ l. serial_of l s) es i blank h ∙ cond-false _ _ _ e
 
   pub serial_here : i < length es → same_sid (get_or es i blank).sid s ≡ true → serial_of (drop i es) s ≡ Some (get_or es i blank).serial
-  serial_here h e = at_drop_more (λ l. serial_of l s) es i blank h ∙ cond_true _ _ _ e
+  serial_here h e = at_drop_more (λ l. serial_of l s) es i blank h ∙ cond-true _ _ _ e
 
   pub serial_none : length es ≤ i → serial_of (drop i es) s ≡ None
   serial_none h = at_drop_all (λ l. serial_of l s) es i h
@@ -40,4 +40,4 @@ has_serial (e ∷ es) s = first_or (same_sid e.sid s) e.serial (serial_of es s) 
 
 pub delta_read : (ls : List Line) (p len : ℕ) (buf : List ℕ) (o : Option DeltaRecord) → p ≤ length ls → take len buf ≡ line_of ls p → o ≡ delta_record (take (len - 0) buf) → delta_at ls p ≡ ok_or o (placed HeadForm p)
 delta_read ls p len buf o h e d =
-    cond_true _ _ _ (le-leb p (length ls) h) ∙ ap (λ l. ok_or (delta_record l) (placed HeadForm p)) (sym e) ∙ ap (λ k. ok_or (delta_record (take k buf)) (placed HeadForm p)) (sym (sub-zero len)) ∙ ap (λ x. ok_or x (placed HeadForm p)) (sym d)
+    cond-true _ _ _ (le-leb p (length ls) h) ∙ ap (λ l. ok_or (delta_record l) (placed HeadForm p)) (sym e) ∙ ap (λ k. ok_or (delta_record (take k buf)) (placed HeadForm p)) (sym (sub-zero len)) ∙ ap (λ x. ok_or x (placed HeadForm p)) (sym d)

@@ -1,6 +1,6 @@
 -- One entry more of a head. Assumes nothing.
 use Rattle.std.proofs.Common.{◌≡◌, ℕ, ◌+◌, ◌≤◌, true, false, not, ◌&&◌, eqb, List, [], ◌∷◌, ◌++◌, take, Ok, Err, sym, refl, ap, ◌∙◌, arith}
-use Rattle.std.proofs.lemmas.Bool.{cond_false, ne_eqb}
+use Rattle.std.proofs.lemmas.Bool.{cond-false, ne_eqb}
 use Rattle.lines.specs.declared.fault.Cause.TheVariants.{HeadContent}
 use Rattle.lines.specs.declared.fault.Fault.{Fault}
 use Rattle.lines.specs.Faults.{placed}
@@ -19,14 +19,14 @@ order_push (a ∷ []) e n = refl
 order_push (a ∷ b ∷ es) e n = order_push (b ∷ es) e n
 
 pub follows_push : (s n : ℕ) → s ≤ 63 → eqb (n + 1) s ≡ follows s n
-follows_push s n h = sym (cond_false _ _ _ (ne_eqb s 64 (λ z. omega arith)))
+follows_push s n h = sym (cond-false _ _ _ (ne_eqb s 64 (λ z. omega arith)))
 
 sound_is : (es : List Entry) (before : ℕ) (d : DeltaRecord) → ((n : ℕ) → sofar_in_order es n ≡ follows before n) → sound es d ≡ sound_after es before d
 sound_is es before d h =
     ap (λ t. d.real && (t && (precedes d.predecessor d.serial && not (has_sid es d.sid)))) (h d.serial)
 
 not_last : (before : ℕ) → (before ≡ 1 → ⊥) → counts ≡ after_entry before
-not_last before h = sym (cond_false _ _ _ (ne_eqb before 1 h))
+not_last before h = sym (cond-false _ _ _ (ne_eqb before 1 h))
 
 -- the entries es are read, the last of them of the serial `before`, and more are to come at p
 module _ (ls : List Line) (es : List Entry) (before p : ℕ) (one : 1 ≤ p) (so : rest ls es (after_entry before) p ≡ head ls) (more : before ≡ 1 → ⊥) where

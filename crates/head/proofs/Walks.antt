@@ -2,7 +2,7 @@
 use Rattle.std.proofs.Common.{◌≡◌, ℕ, ◌+◌, ◌-◌, ◌<◌, ◌≤◌, Bool, true, false, cond, ◌&&◌, eqb, leb, List, [], ◌∷◌, ◌++◌, length, get_or, take, drop, Some, None, Ok, Err, Option, Result, sym, refl, ap, ◌∙◌, ⊎_elim, arith}
 use Rattle.std.specs.Option.{ok_or}
 use Rattle.std.proofs.lemmas.List.{drop_more, drop_all}
-use Rattle.std.proofs.lemmas.Bool.{cond_true, cond_false, cases_lt, cases_Bool, le-leb, lt-leb}
+use Rattle.std.proofs.lemmas.Bool.{cond-true, cond-false, cases_lt, cases_Bool, le-leb, lt-leb}
 use Rattle.lines.specs.declared.fault.Cause.{Cause}
 use Rattle.lines.specs.declared.fault.Cause.TheVariants.{HeadForm, HeadContent}
 use Rattle.lines.specs.Faults.{placed}
@@ -33,10 +33,10 @@ module _ (ls : List (List ℕ)) (p : ℕ) (one : 1 ≤ p) where
       (λ h.
       let back : p - 1 + 1 ≡ p + 1 - 1 = omega arith in
       ap (walk p es t) (drop_more ls (p - 1) [] h ∙ ap (λ k. line_of ls p ∷ drop k ls) back)
-      ∙ ap (λ s. proceed s p (λ es t. rest ls es t (p + 1))) (sym (cond_true (leb p (length ls)) (judge es t (line_of ls p)) (fault HeadForm) (le-leb p (length ls) (omega arith)))))
+      ∙ ap (λ s. proceed s p (λ es t. rest ls es t (p + 1))) (sym (cond-true (leb p (length ls)) (judge es t (line_of ls p)) (fault HeadForm) (le-leb p (length ls) (omega arith)))))
       (λ h.
       ap (walk p es t) (drop_all (p - 1) ls h)
-      ∙ ap (λ s. proceed s p (λ es t. rest ls es t (p + 1))) (sym (cond_false (leb p (length ls)) (judge es t (line_of ls p)) (fault HeadForm) (lt-leb p (length ls) (omega arith)))))
+      ∙ ap (λ s. proceed s p (λ es t. rest ls es t (p + 1))) (sym (cond-false (leb p (length ls)) (judge es t (line_of ls p)) (fault HeadForm) (lt-leb p (length ls) (omega arith)))))
       (cases_lt (p - 1) (length ls))
 
   -- a record of which only the form is judged
@@ -55,12 +55,12 @@ module _ (ls : List (List ℕ)) (p : ℕ) (one : 1 ≤ p) where
     pub demand-ok : (x : Unit) → demand t ls p ≡ Ok x → rest ls es turn p ≡ proceed to p (λ es t. rest ls es t (p + 1))
     demand-ok x e =
         let b = from-demand (leb p (length ls) && t (line_of ls p)) (demand t ls p) refl x e in
-        rest_step es turn ∙ ap (λ s. proceed s p (λ es t. rest ls es t (p + 1))) (formal_at ∙ cond_true _ _ _ b)
+        rest_step es turn ∙ ap (λ s. proceed s p (λ es t. rest ls es t (p + 1))) (formal_at ∙ cond-true _ _ _ b)
 
     pub demand-err : (f : Fault) → demand t ls p ≡ Err f → rest ls es turn p ≡ Err f
     demand-err f e =
         let b = from-refusal (leb p (length ls) && t (line_of ls p)) (demand t ls p) refl f e in
-        rest_step es turn ∙ ap (λ s. proceed s p (λ es t. rest ls es t (p + 1))) (formal_at ∙ cond_false _ _ _ b.0) ∙ ap Err b.1
+        rest_step es turn ∙ ap (λ s. proceed s p (λ es t. rest ls es t (p + 1))) (formal_at ∙ cond-false _ _ _ b.0) ∙ ap Err b.1
 
   -- the delta record
   module _ (es : List Entry) where
@@ -76,11 +76,11 @@ module _ (ls : List (List ℕ)) (p : ℕ) (one : 1 ≤ p) where
 
     pub delta-ok : (d : DeltaRecord) → delta_at ls p ≡ Ok d → sound es d ≡ true → rest ls es delta p ≡ rest ls es (lists (opened d)) (p + 1)
     delta-ok d e h =
-        rest_step es delta ∙ ap (λ s. proceed s p (λ es t. rest ls es t (p + 1))) (delta_parts (leb p (length ls)) (delta_record (line_of ls p)) d e ∙ cond_true _ _ _ h)
+        rest_step es delta ∙ ap (λ s. proceed s p (λ es t. rest ls es t (p + 1))) (delta_parts (leb p (length ls)) (delta_record (line_of ls p)) d e ∙ cond-true _ _ _ h)
 
     pub delta-bad : (d : DeltaRecord) → delta_at ls p ≡ Ok d → sound es d ≡ false → rest ls es delta p ≡ Err (placed HeadContent p)
     delta-bad d e h =
-        rest_step es delta ∙ ap (λ s. proceed s p (λ es t. rest ls es t (p + 1))) (delta_parts (leb p (length ls)) (delta_record (line_of ls p)) d e ∙ cond_false _ _ _ h)
+        rest_step es delta ∙ ap (λ s. proceed s p (λ es t. rest ls es t (p + 1))) (delta_parts (leb p (length ls)) (delta_record (line_of ls p)) d e ∙ cond-false _ _ _ h)
 
     pub delta-err : (f : Fault) → delta_at ls p ≡ Err f → rest ls es delta p ≡ Err f
     delta-err f e =
@@ -92,7 +92,7 @@ module _ (ls : List (List ℕ)) (p : ℕ) (one : 1 ≤ p) where
       (none : (l : List ℕ) → after mark l ≡ None → judge es turn l ≡ judge es (k unlisted) l)
       (some : (l r : List ℕ) → after mark l ≡ Some r → judge es turn l ≡ with_set (serial_list own other r) (λ m. next es (k m))) where
     there : leb p (length ls) ≡ true → (es : List Entry) (t : Turn) → rest ls es t p ≡ proceed (judge es t (line_of ls p)) p (λ es t. rest ls es t (p + 1))
-    there b es t = rest_step es t ∙ ap (λ s. proceed s p (λ es t. rest ls es t (p + 1))) (cond_true _ _ _ b)
+    there b es t = rest_step es t ∙ ap (λ s. proceed s p (λ es t. rest ls es t (p + 1))) (cond-true _ _ _ b)
 
     set-ok : (s : Result SerialSet Cause) (m : SerialSet) (q : ℕ) → set_at p s ≡ Ok (m, q) → proceed (with_set s (λ m. next es (k m))) p (λ es t. rest ls es t (p + 1)) ≡ rest ls es (k m) q
     set-ok (Ok n) m q e =
@@ -119,16 +119,16 @@ module _ (ls : List (List ℕ)) (p : ℕ) (one : 1 ≤ p) where
     pub list-ok : (m : SerialSet) (q : ℕ) → sheet_list mark own other ls p ≡ Ok (m, q) → rest ls es turn p ≡ rest ls es (k m) q
     list-ok m q e =
         ⊎_elim
-        (λ b. in-ok (after mark (line_of ls p)) b refl m q (sym (cond_true _ _ _ b) ∙ e))
-        (λ b. let w : ◌≡◌ {A = Result (SerialSet × ℕ) Fault} (Err (placed HeadForm p)) (Ok (m, q)) = sym (cond_false (leb p (length ls)) (list_in own other p (after mark (line_of ls p))) (Err (placed HeadForm p)) b) ∙ e in let z : ◌≡◌ {A = ℕ} 0 1 = cc in absurd (omega arith))
+        (λ b. in-ok (after mark (line_of ls p)) b refl m q (sym (cond-true _ _ _ b) ∙ e))
+        (λ b. let w : ◌≡◌ {A = Result (SerialSet × ℕ) Fault} (Err (placed HeadForm p)) (Ok (m, q)) = sym (cond-false (leb p (length ls)) (list_in own other p (after mark (line_of ls p))) (Err (placed HeadForm p)) b) ∙ e in let z : ◌≡◌ {A = ℕ} 0 1 = cc in absurd (omega arith))
         (cases_Bool (leb p (length ls)))
 
     pub list-err : (f : Fault) → sheet_list mark own other ls p ≡ Err f → rest ls es turn p ≡ Err f
     list-err f e =
         ⊎_elim
-        (λ b. in-err (after mark (line_of ls p)) b refl f (sym (cond_true _ _ _ b) ∙ e))
+        (λ b. in-err (after mark (line_of ls p)) b refl f (sym (cond-true _ _ _ b) ∙ e))
         (λ b.
-        let w : ◌≡◌ {A = Result (SerialSet × ℕ) Fault} (Err (placed HeadForm p)) (Err f) = sym (cond_false (leb p (length ls)) (list_in own other p (after mark (line_of ls p))) (Err (placed HeadForm p)) b) ∙ e in
+        let w : ◌≡◌ {A = Result (SerialSet × ℕ) Fault} (Err (placed HeadForm p)) (Err f) = sym (cond-false (leb p (length ls)) (list_in own other p (after mark (line_of ls p))) (Err (placed HeadForm p)) b) ∙ e in
         let v : placed HeadForm p ≡ f = cc in
-        rest_step es turn ∙ ap (λ s. proceed s p (λ es t. rest ls es t (p + 1))) (cond_false _ _ _ b) ∙ ap Err v)
+        rest_step es turn ∙ ap (λ s. proceed s p (λ es t. rest ls es t (p + 1))) (cond-false _ _ _ b) ∙ ap Err v)
         (cases_Bool (leb p (length ls)))

@@ -3,7 +3,7 @@ use Rattle.std.proofs.Common.{◌≡◌, ℕ, ◌+◌, ◌-◌, ◌<◌, ◌≤�
 use Rattle.std.specs.Result.{result_unwrap_or}
 use Rattle.std.proofs.ByRecursion.{All-get_or}
 use Rattle.std.proofs.lemmas.List.{at_drop_more, get_or_past, take_at}
-use Rattle.std.proofs.lemmas.Bool.{cases_lt, cases_eq, eq-eqb, ne_eqb, lt-ltb, le-ltb, leb-true, and_parts, or_left, or_right, or_from, cond_true, cond_false, ltb-true, not_from_true}
+use Rattle.std.proofs.lemmas.Bool.{cases_lt, cases_eq, eq-eqb, ne_eqb, lt-ltb, le-ltb, leb-true, and_parts, or_left, or_right, or_from, cond-true, cond-false, ltb-true, not_from_true}
 use Rattle.lines.specs.declared.fault.Fault.{Fault}
 use Rattle.lines.specs.declared.fault.Cause.TheVariants.{NoSuchLine, ReadBufferShort, NotALine, NoRoom, OtherLength}
 use Rattle.lines.specs.Faults.{Refusal, accepted, plain, when, verdict, left}
@@ -45,10 +45,10 @@ lacks_not ls n one o = or_from (eqb n 0) (ltb (length ls) n) (ne_eqb n 0 (λ z. 
 
 -- a check that does not hold, and one that does
 pub check_fails : (b : Bool) (f : Fault) (r : Refusal) → b ≡ true → when b f r ≡ Some f
-check_fails b f r h = cond_true b (Some f) r h
+check_fails b f r h = cond-true b (Some f) r h
 
 pub check_passes : (b : Bool) (f : Fault) (r : Refusal) → b ≡ false → when b f r ≡ r
-check_passes b f r h = cond_false b (Some f) r h
+check_passes b f r h = cond-false b (Some f) r h
 
 -- a call that answers its value is accepted
 pub accepted_ok : {A : Type 0} (q : Refusal) (a : A) (x : A) → Ok x ≡ verdict q a → q ≡ accepted

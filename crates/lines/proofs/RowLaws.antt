@@ -3,9 +3,9 @@ use Rattle.std.proofs.Common.{◌≡◌, ℕ, zero, suc, ◌+◌, ◌-◌, ◌<�
 use lib.Dec.{leb-suc-suc}
 use Rattle.std.specs.List.{between}
 use Rattle.std.proofs.lemmas.List.{length-drop, length-map, drop-drop, drop_all, get_or-map, get_or-drop}
-use Rattle.std.proofs.lemmas.List.Edits.{length_between}
+use Rattle.std.proofs.lemmas.List.Edits.{length-between}
 use Rattle.std.proofs.lemmas.List.Sums.{prefix_len-le-length, sum_by_more}
-use Rattle.std.proofs.lemmas.Bool.{cases_Bool, cases_lt, lt-ltb, le-ltb, lt-leb, le-leb, leb-false, eqb-true, eqb-false, eq-eqb, ne_eqb, cond_true, cond_false, or_parts}
+use Rattle.std.proofs.lemmas.Bool.{cases_Bool, cases_lt, lt-ltb, le-ltb, lt-leb, le-leb, leb-false, eqb-true, eqb-false, eq-eqb, ne_eqb, cond-true, cond-false, or_parts}
 use Rattle.lines.specs.Rows.{row, rows, row_len, wrong, first_wrong, wrong_row, scanned, lines_in, start_of, end_of, part, spot, line_in}
 use Rattle.lines.specs.declared.fault.Cause.TheVariants.{TextForm}
 use Rattle.lines.specs.Faults.{placed}
@@ -56,7 +56,7 @@ module _ (bs : List ℕ) (at end : ℕ) (inside : at < length bs) (is : end ≡ 
       rows_of (drop at bs) some ∙ ap (λ k. row (take k (drop at bs)) (ltb (row_len (drop at bs)) (length (drop at bs))) ∷ rows (drop (row_len (drop at bs) + 1) (drop at bs))) wide ∙ ap (λ t. row (between at end bs) t ∷ rows (drop (row_len (drop at bs) + 1) (drop at bs))) test ∙ ap (λ r. row (between at end bs) (ltb end (length bs)) ∷ rows r) rest
 
   pub row_length : length (between at end bs) ≡ end - at
-  row_length = length_between bs at end end_within
+  row_length = length-between bs at end end_within
 
   -- what the scan tests
   pub wrong_is : (n : ℕ) → wrong n (row (between at end bs) (ltb end (length bs))) ≡ (ltb 240 (end - at) || (eqb n 4001 || leb (length bs) end))
@@ -66,9 +66,9 @@ module _ (bs : List ℕ) (at end : ℕ) (inside : at < length bs) (is : end ≡ 
     pub found : (ltb 240 (end - at) || (eqb (n + 1) 4001 || leb (length bs) end)) ≡ true → scanned bs ≡ Err (placed TextForm (n + 1))
     found t =
         let here : wrong (n + 1) (row (between at end bs) (ltb end (length bs))) ≡ true = wrong_is (n + 1) ∙ t in
-        let place : wrong_row bs ≡ n + 1 = sym sofar.2 ∙ ap (first_wrong (n + 1)) rows_at ∙ cond_true _ _ _ here in
+        let place : wrong_row bs ≡ n + 1 = sym sofar.2 ∙ ap (first_wrong (n + 1)) rows_at ∙ cond-true _ _ _ here in
         let no : eqb (wrong_row bs) 0 ≡ false = ne_eqb (wrong_row bs) 0 (λ z. absurd (omega arith)) in
-        cond_false _ _ _ no ∙ ap (λ p. Err (placed TextForm p)) place
+        cond-false _ _ _ no ∙ ap (λ p. Err (placed TextForm p)) place
 
     pub passed : (ltb 240 (end - at) || (eqb (n + 1) 4001 || leb (length bs) end)) ≡ false → Sofar bs (end + 1) (n + 1)
     passed t =
@@ -77,14 +77,14 @@ module _ (bs : List ℕ) (at end : ℕ) (inside : at < length bs) (is : end ≡ 
         let more : end < length bs = leb-false (length bs) end parts.1 in
         let few : n + 1 ≡ 4001 → ⊥ = eqb-false (n + 1) 4001 parts.0 in
         let long : length (rows (drop at bs)) ≡ suc (length (rows (drop (end + 1) bs))) = ap length rows_at in
-        (omega arith, omega (arith, few), sym (cond_false _ _ _ here) ∙ sym (ap (first_wrong (n + 1)) rows_at) ∙ sofar.2, omega arith)
+        (omega arith, omega (arith, few), sym (cond-false _ _ _ here) ∙ sym (ap (first_wrong (n + 1)) rows_at) ∙ sofar.2, omega arith)
 
 pub done : (bs : List ℕ) (at n : ℕ) → Sofar bs at n → length bs ≤ at → scanned bs ≡ Ok n
 done bs at n sofar end =
     let none : rows (drop at bs) ≡ [] = ap rows (drop_all at bs end) in
     let yes : eqb (wrong_row bs) 0 ≡ true = eq-eqb (wrong_row bs) 0 (sym sofar.2 ∙ ap (first_wrong (n + 1)) none) in
     let long : length (rows (drop at bs)) ≡ 0 = ap length none in
-    cond_true _ _ _ yes ∙ ap Ok (omega arith)
+    cond-true _ _ _ yes ∙ ap Ok (omega arith)
 
 -- row n begins at `at`: that is the place of line n, and the rows from there on are those after the n - 1 first
 abbrev pub Starts : List ℕ → ℕ → ℕ → Type 0
@@ -162,20 +162,20 @@ module _ (bs : List ℕ) (at end n : ℕ) (is : end ≡ at + row_len (drop at bs
   pub part_is : Some (between at end bs) ≡ part bs n
   part_is =
       let far : end ≡ end_of (lines_in bs) n = omega (arith, starts.0, line_length bs at end n is one more starts) in
-      ap (λ a. Some (between a end bs)) starts.0 ∙ ap (λ e. Some (between (start_of (lines_in bs) n) e bs)) far ∙ sym (cond_false _ _ _ (has_row bs n one more))
+      ap (λ a. Some (between a end bs)) starts.0 ∙ ap (λ e. Some (between (start_of (lines_in bs) n) e bs)) far ∙ sym (cond-false _ _ _ (has_row bs n one more))
 
   pub spot_is : (p : ℕ × ℕ) → Some (p.0, at + p.1) ≡ spot p bs n
-  spot_is p = ap (λ a. Some (p.0, a + p.1)) starts.0 ∙ sym (cond_false _ _ _ (has_row bs n one more))
+  spot_is p = ap (λ a. Some (p.0, a + p.1)) starts.0 ∙ sym (cond-false _ _ _ (has_row bs n one more))
 
   pub line_in_is : Some (between at end bs) ≡ line_in bs n
-  line_in_is = ap Some (sym (line_is bs at end n is one more starts)) ∙ sym (cond_false _ _ _ (has_row bs n one more))
+  line_in_is = ap Some (sym (line_is bs at end n is one more starts)) ∙ sym (cond-false _ _ _ (has_row bs n one more))
 
 -- what an accepted scan says
 pub scanned_ok : (bs : List ℕ) (n : ℕ) → Ok n ≡ scanned bs → (wrong_row bs ≡ 0) × (n ≡ length (rows bs))
 scanned_ok bs n is =
     ⊎_elim
-    (λ (e : eqb (wrong_row bs) 0 ≡ true). let same : Ok n ≡ Ok (length (rows bs)) = is ∙ cond_true _ _ _ e in (eqb-true (wrong_row bs) 0 e, cc))
-    (λ (e : eqb (wrong_row bs) 0 ≡ false). let never : Ok n ≡ Err (placed TextForm (wrong_row bs)) = is ∙ cond_false _ _ _ e in let z : ◌≡◌ {A = ℕ} 0 1 = cc in absurd (omega arith))
+    (λ (e : eqb (wrong_row bs) 0 ≡ true). let same : Ok n ≡ Ok (length (rows bs)) = is ∙ cond-true _ _ _ e in (eqb-true (wrong_row bs) 0 e, cc))
+    (λ (e : eqb (wrong_row bs) 0 ≡ false). let never : Ok n ≡ Err (placed TextForm (wrong_row bs)) = is ∙ cond-false _ _ _ e in let z : ◌≡◌ {A = ℕ} 0 1 = cc in absurd (omega arith))
     (cases_Bool (eqb (wrong_row bs) 0))
 
 pub rows_few : (bs : List ℕ) → wrong_row bs ≡ 0 → length (rows bs) ≤ 4000

@@ -3,7 +3,7 @@ use Rattle.std.proofs.Common.{◌≡◌, ℕ, zero, suc, ◌+◌, ◌-◌, ◌<�
 use Rattle.std.specs.List.{insert, remove}
 use Rattle.std.proofs.lemmas.List.{at_drop_more, map-append, take-map, drop-map, length-map}
 use Rattle.std.proofs.lemmas.List.Edits.{length-insert, get_or-insert_below, get_or-insert_at, get_or-insert_above, length-remove, get_or-remove_below, get_or-remove_above}
-use Rattle.std.proofs.lemmas.Bool.{cond_both, cond_true, cond_false, ltb-true, ltb-false, eq-eqb, ne_eqb, cases_lt, cases_order, cases_Bool, true≢false}
+use Rattle.std.proofs.lemmas.Bool.{cond_both, cond-true, cond-false, ltb-true, ltb-false, eq-eqb, ne_eqb, cases_lt, cases_order, cases_Bool, true≢false}
 use Rattle.queue.specs.Slots.{place, keys, Rising, holds, under, with_slot, without}
 use Rattle.queue.specs.declared.slots.Slot.{Slot}
 
@@ -81,12 +81,12 @@ module _ {E : Type 0} (k : ℕ) where
 
   pub held : (ss : List (Slot E)) (i : ℕ) → i < length ss → get_or (keys ss) i 0 ≡ k → holds k ss ≡ true
   held [] i h e = absurd (omega arith)
-  held (s ∷ ss) zero h e = cond_true _ _ _ (eq-eqb s.key k e)
+  held (s ∷ ss) zero h e = cond-true _ _ _ (eq-eqb s.key k e)
   held (s ∷ ss) (suc i) h e = cond_both (eqb s.key k) true (holds k ss) (λ b. b ≡ true) (λ _. refl) (λ _. held ss i (omega arith) e)
 
   not_held : (ss : List (Slot E)) → ((i : ℕ) → i < length ss → get_or (keys ss) i 0 ≡ k → ⊥) → holds k ss ≡ false
   not_held [] h = refl
-  not_held (s ∷ ss) h = cond_false _ _ _ (ne_eqb s.key k (h 0 (omega arith))) ∙ not_held ss (λ i l. h (suc i) (suc-le-suc l))
+  not_held (s ∷ ss) h = cond-false _ _ _ (ne_eqb s.key k (h 0 (omega arith))) ∙ not_held ss (λ i l. h (suc i) (suc-le-suc l))
 
   -- nothing stands at the place: nothing stands anywhere
   pub missing : (ss : List (Slot E)) → Rising (keys ss) → (place k ss < length ss → get_or (keys ss) (place k ss) 0 ≡ k → ⊥) → holds k ss ≡ false
@@ -105,16 +105,16 @@ module _ {E : Type 0} (k : ℕ) where
   under_none [] h = refl
   under_none (s ∷ ss) h =
       ⊎_elim
-      (λ (e : eqb s.key k ≡ true). absurd (true≢false (sym (cond_true _ _ _ e) ∙ h)))
-      (λ (e : eqb s.key k ≡ false). cond_false _ _ _ e ∙ under_none ss (sym (cond_false _ _ _ e) ∙ h))
+      (λ (e : eqb s.key k ≡ true). absurd (true≢false (sym (cond-true _ _ _ e) ∙ h)))
+      (λ (e : eqb s.key k ≡ false). cond-false _ _ _ e ∙ under_none ss (sym (cond-false _ _ _ e) ∙ h))
       (cases_Bool (eqb s.key k))
 
   pub without_none : (ss : List (Slot E)) → holds k ss ≡ false → without k ss ≡ ss
   without_none [] h = refl
   without_none (s ∷ ss) h =
       ⊎_elim
-      (λ (e : eqb s.key k ≡ true). absurd (true≢false (sym (cond_true _ _ _ e) ∙ h)))
-      (λ (e : eqb s.key k ≡ false). cond_false _ _ _ e ∙ ap (λ ts. s ∷ ts) (without_none ss (sym (cond_false _ _ _ e) ∙ h)))
+      (λ (e : eqb s.key k ≡ true). absurd (true≢false (sym (cond-true _ _ _ e) ∙ h)))
+      (λ (e : eqb s.key k ≡ false). cond-false _ _ _ e ∙ ap (λ ts. s ∷ ts) (without_none ss (sym (cond-false _ _ _ e) ∙ h)))
       (cases_Bool (eqb s.key k))
 
   -- a slot after the first of rising ones has another key than the first
@@ -126,21 +126,21 @@ module _ {E : Type 0} (k : ℕ) where
 
   pub under_at : (ss : List (Slot E)) (i : ℕ) (d : Slot E) → Rising (keys ss) → i < length ss → get_or (keys ss) i 0 ≡ k → under k ss ≡ Some (get_or ss i d).element
   under_at [] i d up l e = absurd (omega arith)
-  under_at (s ∷ ss) zero d up l e = cond_true _ _ _ (eq-eqb s.key k e)
-  under_at (s ∷ ss) (suc i) d up l e = cond_false _ _ _ (other s ss i up (omega arith) e) ∙ under_at ss i d (tail_rises _ _ up) (omega arith) e
+  under_at (s ∷ ss) zero d up l e = cond-true _ _ _ (eq-eqb s.key k e)
+  under_at (s ∷ ss) (suc i) d up l e = cond-false _ _ _ (other s ss i up (omega arith) e) ∙ under_at ss i d (tail_rises _ _ up) (omega arith) e
 
   pub without_at : (ss : List (Slot E)) (i : ℕ) → Rising (keys ss) → i < length ss → get_or (keys ss) i 0 ≡ k → without k ss ≡ remove ss i
   without_at [] i up l e = absurd (omega arith)
-  without_at (s ∷ ss) zero up l e = cond_true _ _ _ (eq-eqb s.key k e)
-  without_at (s ∷ ss) (suc i) up l e = cond_false _ _ _ (other s ss i up (omega arith) e) ∙ ap (λ ts. s ∷ ts) (without_at ss i (tail_rises _ _ up) (omega arith) e)
+  without_at (s ∷ ss) zero up l e = cond-true _ _ _ (eq-eqb s.key k e)
+  without_at (s ∷ ss) (suc i) up l e = cond-false _ _ _ (other s ss i up (omega arith) e) ∙ ap (λ ts. s ∷ ts) (without_at ss i (tail_rises _ _ up) (omega arith) e)
 
 module _ {E : Type 0} (s : Slot E) where
   pub with_slot_at : (ss : List (Slot E)) → with_slot s ss ≡ insert ss (place s.key ss) s
   with_slot_at [] = refl
   with_slot_at (t ∷ ts) =
       ⊎_elim
-      (λ (e : ltb t.key s.key ≡ true). cond_true _ _ _ e ∙ ap (λ us. t ∷ us) (with_slot_at ts) ∙ ap (λ n. insert (t ∷ ts) n s) (sym (cond_true _ (suc (place s.key ts)) 0 e)))
-      (λ (e : ltb t.key s.key ≡ false). cond_false _ _ _ e ∙ ap (λ n. insert (t ∷ ts) n s) (sym (cond_false _ (suc (place s.key ts)) 0 e)))
+      (λ (e : ltb t.key s.key ≡ true). cond-true _ _ _ e ∙ ap (λ us. t ∷ us) (with_slot_at ts) ∙ ap (λ n. insert (t ∷ ts) n s) (sym (cond-true _ (suc (place s.key ts)) 0 e)))
+      (λ (e : ltb t.key s.key ≡ false). cond-false _ _ _ e ∙ ap (λ n. insert (t ∷ ts) n s) (sym (cond-false _ (suc (place s.key ts)) 0 e)))
       (cases_Bool (ltb t.key s.key))
 
   keys_inserted : (ss : List (Slot E)) (i : ℕ) → keys (insert ss i s) ≡ insert (keys ss) i s.key

@@ -1,7 +1,7 @@
 -- Control records by their first three bytes. Assumes nothing.
 use Rattle.std.proofs.Common.{◌≡◌, ℕ, ◌-◌, ◌≤◌, List, [], ◌∷◌, length, get_or, take, drop, Option, sym, refl, ap, ◌∙◌, arith}
 use Rattle.std.proofs.lemmas.List.{take_rest}
-use Rattle.std.proofs.lemmas.Bool.{cond_true, eq-eqb}
+use Rattle.std.proofs.lemmas.Bool.{cond-true, eq-eqb}
 use Rattle.records.specs.BodyRecords.{Record, control, record_of}
 use Rattle.records.specs.Numerals.{serial_up_to}
 
@@ -11,7 +11,7 @@ control_at top k [] long one letter blank = absurd (omega arith)
 control_at top k (a ∷ []) long one letter blank = absurd (omega arith)
 control_at top k (a ∷ (b ∷ [])) long one letter blank = absurd (omega arith)
 control_at top k (a ∷ (b ∷ (c ∷ xs))) long one letter blank =
-    cond_true _ _ _ (eq-eqb a 1 one) ∙ cond_true _ _ _ (eq-eqb c 32 blank) ∙ ap (λ j. control j (serial_up_to top xs)) letter
+    cond-true _ _ _ (eq-eqb a 1 one) ∙ cond-true _ _ _ (eq-eqb c 32 blank) ∙ ap (λ j. control j (serial_up_to top xs)) letter
     ∙ ap (λ ys. control k (serial_up_to top ys)) (sym (take_rest (a ∷ (b ∷ (c ∷ xs))) 3))
 
 -- what a reader makes of the serial that it found

@@ -2,15 +2,15 @@
 use Rattle.std.proofs.Common.{◌≡◌, ℕ, ◌+◌, ◌-◌, ◌*◌, ◌^◌, ◌<◌, ◌≤◌, true, false, leb, List, length, get_or, drop, IfSome, Some, None, Option, ap, ◌∙◌, pow-suc, add-one, arith}
 use native.Mathlib.Nat.{pow-le-pow_right}
 use Rattle.std.proofs.lemmas.List.{at_drop_more, at_drop_all}
-use Rattle.std.proofs.lemmas.Bool.{cond_true, cond_false, and_parts, leb-true}
+use Rattle.std.proofs.lemmas.Bool.{cond-true, cond-false, and_parts, leb-true}
 use Rattle.records.specs.Numerals.{digit, reads}
 
 module _ (n : ℕ) (xs : List ℕ) (i : ℕ) where
   pub reads_more : i < length xs → digit (get_or xs i 0) ≡ true → reads n (drop i xs) ≡ reads (n * 10 + (get_or xs i 0 - 48)) (drop (i + 1) xs)
-  reads_more h e = at_drop_more (reads n) xs i 0 h ∙ cond_true _ _ _ e
+  reads_more h e = at_drop_more (reads n) xs i 0 h ∙ cond-true _ _ _ e
 
   pub reads_stop : i < length xs → digit (get_or xs i 0) ≡ false → reads n (drop i xs) ≡ None
-  reads_stop h e = at_drop_more (reads n) xs i 0 h ∙ cond_false _ _ _ e
+  reads_stop h e = at_drop_more (reads n) xs i 0 h ∙ cond-false _ _ _ e
 
   pub reads_end : length xs ≤ i → reads n (drop i xs) ≡ Some n
   reads_end h = at_drop_all (reads n) xs i h

@@ -1,7 +1,7 @@
 -- A list of serials, read one by one. Assumes nothing.
 use Rattle.std.proofs.Common.{◌≡◌, ℕ, ◌+◌, ◌<◌, ◌≤◌, Bool, true, false, cond, ◌&&◌, leb, List, [], ◌∷◌, length, drop, Some, None, Ok, Err, Option, Result, sym, refl, ap, ◌∙◌, ⊎_elim, arith}
 use Rattle.std.specs.Option.{option_map}
-use Rattle.std.proofs.lemmas.Bool.{cases_lt, le-leb, lt-leb, cond_true, cond_false}
+use Rattle.std.proofs.lemmas.Bool.{cases_lt, le-leb, lt-leb, cond-true, cond-false}
 use Rattle.lines.specs.declared.fault.Cause.{Cause}
 use Rattle.lines.specs.declared.fault.Cause.TheVariants.{HeadForm, HeadContent}
 use Rattle.sets.specs.declared.set.SerialSet.{SerialSet}
@@ -22,16 +22,16 @@ left bs at = cond (leb at (length bs)) (cut 32 (drop at bs)) []
 
 module _ (bs : List ℕ) where
   left_start : left bs 0 ≡ cut 32 bs
-  left_start = cond_true _ _ _ (le-leb 0 (length bs) (omega arith))
+  left_start = cond-true _ _ _ (le-leb 0 (length bs) (omega arith))
 
   left_past : (at : ℕ) → length bs < at → left bs at ≡ []
-  left_past at h = cond_false _ _ _ (lt-leb at (length bs) h)
+  left_past at h = cond-false _ _ _ (lt-leb at (length bs) h)
 
   left_more : (at : ℕ) → at ≤ length bs → left bs at ≡ piece 32 bs at ∷ left bs (piece_end 32 bs at + 1)
   left_more at h =
-      cond_true _ _ _ (le-leb at (length bs) h)
+      cond-true _ _ _ (le-leb at (length bs) h)
       ∙ ⊎_elim
-      (λ m. cut_more 32 bs at h m ∙ ap (λ ps. piece 32 bs at ∷ ps) (sym (cond_true _ _ _ (le-leb (piece_end 32 bs at + 1) (length bs) (omega arith)))))
+      (λ m. cut_more 32 bs at h m ∙ ap (λ ps. piece 32 bs at ∷ ps) (sym (cond-true _ _ _ (le-leb (piece_end 32 bs at + 1) (length bs) (omega arith)))))
       (λ m. cut_last 32 bs at h m ∙ ap (λ ps. piece 32 bs at ∷ ps) (sym (left_past (piece_end 32 bs at + 1) (omega arith))))
       (cases_lt (piece_end 32 bs at) (length bs))
 

@@ -1,7 +1,7 @@
 -- The six words of a delta record, cut off one by one. Assumes nothing.
 use Rattle.std.proofs.Common.{◌≡◌, ℕ, ◌+◌, ◌<◌, ◌≤◌, List, [], ◌∷◌, ◌++◌, length, drop, Some, None, sym, refl, ap, ◌∙◌, append_assoc, arith}
 use Rattle.std.specs.List.{between}
-use Rattle.std.proofs.lemmas.Bool.{cond_false, ne_eqb}
+use Rattle.std.proofs.lemmas.Bool.{cond-false, ne_eqb}
 use Rattle.records.specs.Pieces.{cut, piece, piece_end}
 use Rattle.records.specs.DeltaRecords.{six}
 use Rattle.records.proofs.Cuts.{cut_more, cut_last, cut-some}
@@ -26,7 +26,7 @@ module _ (w : List ℕ) where
   too_many a b c d e f at inside so =
       let t = cut-some 32 w at inside in
       let far : length (a ∷ b ∷ c ∷ d ∷ e ∷ f ∷ piece 32 w at ∷ t.0) ≡ 6 → ⊥ = λ z. omega arith in
-      ap six (so ∙ ap (λ ps. a ∷ b ∷ c ∷ d ∷ e ∷ f ∷ ps) t.1) ∙ cond_false _ _ _ (ne_eqb _ 6 far)
+      ap six (so ∙ ap (λ ps. a ∷ b ∷ c ∷ d ∷ e ∷ f ∷ ps) t.1) ∙ cond-false _ _ _ (ne_eqb _ 6 far)
 
   -- the words end at a, b, c, d, e and f
   module _ (a : ℕ) (a-is : a ≡ piece_end 32 w 0) where

@@ -4,7 +4,7 @@ use native.Mathlib.Nat.{div-eq_of_lt}
 use lib.Bits.{bit_and, bit_or, bit_xor}
 use Rattle.std.proofs.lemmas.Nat.{pow_pos, pow-add, shl-shr, or_shr, or_mod, xor_shr, xor_mod, and_shr, and_mod, mod-mul-add, mod_below, pow_below}
 use Rattle.std.proofs.lemmas.List.{get_or-set_same, get_or-set_other, get_or_past, length-set}
-use Rattle.std.proofs.lemmas.Bool.{cond_true, cond_false, cases_order, cases_eq, cases_lt, eq-eqb, ne_eqb, eqb-true, and_parts, lt-ltb, le-ltb}
+use Rattle.std.proofs.lemmas.Bool.{cond-true, cond-false, cases_order, cases_eq, cases_lt, eq-eqb, ne_eqb, eqb-true, and_parts, lt-ltb, le-ltb}
 use Rattle.std.proofs.lemmas.Bool.Decides.{nat_tests}
 use Rattle.sets.specs.Bits.{bit, bits, raised}
 
@@ -97,18 +97,18 @@ pub record Combined (f : ℕ → ℕ → ℕ) (xs ys ws : List ℕ) (i : ℕ) : 
   pub words : (k : ℕ) → get_or ws k 0 ≡ cond (ltb k i) (f (get_or xs k 0) (get_or ys k 0)) (get_or xs k 0)
 
 pub combined_none : (f : ℕ → ℕ → ℕ) (xs ys : List ℕ) → Combined f xs ys xs 0
-combined_none f xs ys = record { size = refl; words = λ k. sym (cond_false _ _ _ (le-ltb k 0 (omega arith))) }
+combined_none f xs ys = record { size = refl; words = λ k. sym (cond-false _ _ _ (le-ltb k 0 (omega arith))) }
 
 pub combined_more : (f : ℕ → ℕ → ℕ) (xs ys ws : List ℕ) (i x : ℕ) → i < length ws → x ≡ f (get_or ws i 0) (get_or ys i 0) → Combined f xs ys ws i → Combined f xs ys (set ws i x) (i + 1)
 combined_more f xs ys ws i x inside is done =
-    let old : get_or ws i 0 ≡ get_or xs i 0 = done.words i ∙ cond_false _ _ _ (le-ltb i i (omega arith)) in
+    let old : get_or ws i 0 ≡ get_or xs i 0 = done.words i ∙ cond-false _ _ _ (le-ltb i i (omega arith)) in
     record {
       size = length-set ws i x ∙ done.size;
       words = λ k.
           ⊎_elim
           (λ (here : k ≡ i).
           ap (λ j. get_or (set ws i x) j 0) here ∙ get_or-set_same ws i x 0 inside ∙ is ∙ ap (λ w. f w (get_or ys i 0)) old ∙ ap (λ j. f (get_or xs j 0) (get_or ys j 0)) (sym here)
-          ∙ sym (cond_true _ _ _ (lt-ltb k (i + 1) (omega arith))))
+          ∙ sym (cond-true _ _ _ (lt-ltb k (i + 1) (omega arith))))
           (λ (apart : k ≡ i → ⊥).
           get_or-set_other ws i k x 0 apart ∙ done.words k ∙ ap (λ b. cond b (f (get_or xs k 0) (get_or ys k 0)) (get_or xs k 0)) (passed k i apart))
           (cases_eq k i);
@@ -117,11 +117,11 @@ combined_more f xs ys ws i x inside is done =
 pub combined_all : (f : ℕ → ℕ → ℕ) (xs ys ws : List ℕ) (i : ℕ) → length ys ≡ length xs → length xs ≤ i → f 0 0 ≡ 0 → Combined f xs ys ws i → (k : ℕ) → get_or ws k 0 ≡ f (get_or xs k 0) (get_or ys k 0)
 combined_all f xs ys ws i same end zero_is done k =
     ⊎_elim
-    (λ (less : k < i). done.words k ∙ cond_true _ _ _ (lt-ltb k i less))
+    (λ (less : k < i). done.words k ∙ cond-true _ _ _ (lt-ltb k i less))
     (λ (past : i ≤ k).
     let a = get_or_past xs k 0 (omega arith) in
     let b = get_or_past ys k 0 (omega arith) in
-    done.words k ∙ cond_false _ _ _ (le-ltb k i past) ∙ a ∙ sym (ap (λ x. f x (get_or ys k 0)) a ∙ ap (f 0) b ∙ zero_is))
+    done.words k ∙ cond-false _ _ _ (le-ltb k i past) ∙ a ∙ sym (ap (λ x. f x (get_or ys k 0)) a ∙ ap (f 0) b ∙ zero_is))
     (cases_lt k i)
 
 module _ (xs ys ws : List ℕ) where

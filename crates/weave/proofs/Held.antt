@@ -2,7 +2,7 @@
 use Rattle.std.proofs.Common.{◌≡◌, ℕ, zero, suc, ◌+◌, ◌-◌, ◌<◌, ◌≤◌, Bool, true, false, cond, not, ◌&&◌, ◌||◌, eqb, ltb, List, [], ◌∷◌, map, length, get_or, drop, Some, None, Option, sym, refl, ap, ◌∙◌, arith}
 use Rattle.std.specs.List.{AllByRecursion as All}
 use Rattle.std.proofs.lemmas.List.{get_or-map, length-map, at_drop_more}
-use Rattle.std.proofs.lemmas.Bool.{cond_both, cond_true, cond_false, or_right, eqb-true, ne_eqb, le-ltb, lt-ltb}
+use Rattle.std.proofs.lemmas.Bool.{cond_both, cond-true, cond-false, or_right, eqb-true, ne_eqb, le-ltb, lt-ltb}
 use Rattle.std.proofs.lemmas.Bool.Decides.{nat_tests}
 use Rattle.queue.specs.Slots.{keys, Rising, holds, under, with_slot, without}
 use Rattle.queue.specs.declared.slots.Slot.{Slot}
@@ -32,7 +32,7 @@ with_is s [] = refl
 with_is s (t ∷ ts) =
     rw (serial_is t.element t.key, serial_is s.element s.key)
     (cond_both (ltb t.key s.key) _ _ (λ us. marks us ≡ cond (ltb t.key s.key) (mark_of t ∷ with_mark (mark_of s) (marks ts)) (mark_of s ∷ (mark_of t ∷ marks ts)))
-    (λ e. ap (λ ms. mark_of t ∷ ms) (with_is s ts) ∙ sym (cond_true _ _ _ e)) (λ e. sym (cond_false _ _ _ e)))
+    (λ e. ap (λ ms. mark_of t ∷ ms) (with_is s ts) ∙ sym (cond-true _ _ _ e)) (λ e. sym (cond-false _ _ _ e)))
 
 pub without_is : (k : ℕ) (ss : List (Slot Mark)) → marks (without k ss) ≡ closed k (marks ss)
 unfolding closed
@@ -40,7 +40,7 @@ without_is k [] = refl
 without_is k (t ∷ ts) =
     rw (serial_is t.element t.key)
     (cond_both (eqb t.key k) _ _ (λ us. marks us ≡ cond (eqb t.key k) (marks ts) (mark_of t ∷ closed k (marks ts)))
-    (λ e. sym (cond_true _ _ _ e)) (λ e. ap (λ ms. mark_of t ∷ ms) (without_is k ts) ∙ sym (cond_false _ _ _ e)))
+    (λ e. sym (cond-true _ _ _ e)) (λ e. ap (λ ms. mark_of t ∷ ms) (without_is k ts) ∙ sym (cond-false _ _ _ e)))
 
 or_cond : (a b : Bool) → cond a true b ≡ (a || b)
 or_cond true b = refl
@@ -248,7 +248,7 @@ module _ (q : Queue Mark) (top : ℕ) (bounded : Bounded top (open_marks q)) (fi
       let (free, low, high) = allowed_open (number e) may in
       let few = bounded_few top (items q) (rises q) bounded in
       let s : Slot Mark = record { key = number e; element = e } in
-      ap marks (cond_false _ _ _ (holds_is (number e) (items q) ∙ free) ∙ cond_false _ _ _ (ne_eqb (length (items q)) (room q) (λ full. omega arith))) ∙ with_is s (items q)
+      ap marks (cond-false _ _ _ (holds_is (number e) (items q) ∙ free) ∙ cond-false _ _ _ (ne_eqb (length (items q)) (room q) (λ full. omega arith))) ∙ with_is s (items q)
 
   pub bounded_opened : (e : Mark) → may_open top (number e) (open_marks q) ≡ true → Bounded top (with_mark (kind e (number e)) (open_marks q))
   bounded_opened e may =

@@ -1,6 +1,6 @@
 -- The set of a version decides each serial as the relation asks, and no other set does.
 use Rattle.std.proofs.Common.{◌≡◌, ℕ, zero, suc, ◌+◌, ◌-◌, ◌<◌, ◌≤◌, Bool, true, false, cond, eqb, ◌⊎◌, List, [], ◌∷◌, length, Some, None, Option, sym, refl, ap, ◌∙◌, subst, inl, inr, ⊎_elim, true≢false, arith}
-use Rattle.std.proofs.lemmas.Bool.{cond_both, cond_true, cond_false, cases_Bool, cases_eq, cases_lt, eq-eqb, ne_eqb, eqb-true, eqb-false}
+use Rattle.std.proofs.lemmas.Bool.{cond_both, cond-true, cond-false, cases_Bool, cases_eq, cases_lt, eq-eqb, ne_eqb, eqb-true, eqb-false}
 use Rattle.sets.specs.Bits.{Serials}
 use Rattle.weave.specs.Versions.{Lists, Delta, Marked, marks, or_else, marked_or, members, set_of}
 use Rattle.weave.specs.Relation.{HasDelta, newest, older, Reached, itself, onward, MarkedBy, Stands, called, listed, reached, unreached, IsSetOf, Descends, TheOnlySet}
@@ -148,11 +148,11 @@ module _ (d : Delta) (ds : List Delta) (v : ℕ) (m : Marked) (down : Descends (
 
   at_newest : s n ≡ is_in
   unfolding members n is_in m' v' s
-  at_newest = cond_true _ _ _ (eq-eqb (length ds + 1) (length ds + 1) refl)
+  at_newest = cond-true _ _ _ (eq-eqb (length ds + 1) (length ds + 1) refl)
 
   at_older : (k : ℕ) → k ≤ length ds → s k ≡ s' k
   unfolding members n is_in m' v' s s'
-  at_older k low = cond_false _ _ _ (ne_eqb k (length ds + 1) (λ is. omega arith))
+  at_older k low = cond-false _ _ _ (ne_eqb k (length ds + 1) (λ is. omega arith))
 
   -- what marks an older serial k
   marked_more : (k j : ℕ) (c : Bool) → MarkedBy ds s' k j c → MarkedBy (d ∷ ds) s k j c
@@ -178,11 +178,11 @@ module _ (d : Delta) (ds : List Delta) (v : ℕ) (m : Marked) (down : Descends (
   reach_up k r =
       ⊎_elim
       (λ (is : eqb v (length ds + 1) ≡ true).
-      let first : v' ≡ d.predecessor = cond_true _ _ _ is in
+      let first : v' ≡ d.predecessor = cond-true _ _ _ is in
       let from : Reached (d ∷ ds) (length ds + 1) k = reached_first (subst (λ (u : ℕ). Reached ds u k) first r) in
       subst (λ (u : ℕ). Reached (d ∷ ds) u k) (sym (eqb-true v (length ds + 1) is)) from)
       (λ (other : eqb v (length ds + 1) ≡ false).
-      let same : v' ≡ v = cond_false _ _ _ other in
+      let same : v' ≡ v = cond-false _ _ _ other in
       reached_more (subst (λ (u : ℕ). Reached ds u k) same r))
       (cases_Bool (eqb v (length ds + 1)))
 
@@ -191,12 +191,12 @@ module _ (d : Delta) (ds : List Delta) (v : ℕ) (m : Marked) (down : Descends (
   reach_down k low r =
       ⊎_elim
       (λ (is : eqb v (length ds + 1) ≡ true).
-      let first : v' ≡ d.predecessor = cond_true _ _ _ is in
+      let first : v' ≡ d.predecessor = cond-true _ _ _ is in
       let from : Reached (d ∷ ds) (length ds + 1) k = subst (λ (u : ℕ). Reached (d ∷ ds) u k) (eqb-true v (length ds + 1) is) r in
       subst (λ (u : ℕ). Reached ds u k) (sym first)
       (⊎_elim (λ (top : k ≡ length ds + 1). absurd (omega arith)) (λ (b : Reached ds d.predecessor k). b) (reached-back down from)))
       (λ (other : eqb v (length ds + 1) ≡ false).
-      let same : v' ≡ v = cond_false _ _ _ other in
+      let same : v' ≡ v = cond-false _ _ _ other in
       subst (λ (u : ℕ). Reached ds u k) (sym same) (reached_less down (eqb-false v (length ds + 1) other) r))
       (cases_Bool (eqb v (length ds + 1)))
 
@@ -254,13 +254,13 @@ module _ (d : Delta) (ds : List Delta) (v : ℕ) (m : Marked) (down : Descends (
       (λ (free : m k ≡ None).
       ⊎_elim
       (λ (has : is_in ≡ true).
-      let is : m' k ≡ marks d.lists k = cond_true _ _ _ has ∙ ap (λ o. or_else o (marks d.lists k)) free in
+      let is : m' k ≡ marks d.lists k = cond-true _ _ _ has ∙ ap (λ o. or_else o (marks d.lists k)) free in
       ⊎_elim
       (λ (lists : (c : Bool) × (marks d.lists k ≡ Some c)).
       by-newest k low free has (lists.1 ∙ ap Some (decided lists.0 (is ∙ lists.1) stands)))
       (λ (none : marks d.lists k ≡ None). by_rest k low free (λ c _ w. some_none c (marks d.lists k) w none) (is ∙ none) stands)
       (mark_cases (marks d.lists k)))
-      (λ (out : is_in ≡ false). by_rest k low free (λ c has _. true≢false (sym has ∙ out)) (cond_false _ _ _ out ∙ free) stands)
+      (λ (out : is_in ≡ false). by_rest k low free (λ c has _. true≢false (sym has ∙ out)) (cond-false _ _ _ out ∙ free) stands)
       (cases_Bool is_in))
       (mark_cases (m k))
 

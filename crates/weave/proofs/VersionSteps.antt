@@ -1,7 +1,7 @@
 -- One serial down in the making of a version's set.
 use Rattle.std.proofs.Common.{◌≡◌, ℕ, ◌+◌, ◌<◌, Bool, true, false, cond, not, ◌&&◌, ◌||◌, eqb, List, [], ◌∷◌, length, Some, None, Option, sym, refl, ap, ◌∙◌, ⊎_elim, arith}
 use mathlib.Core.Path.{fun_ext}
-use Rattle.std.proofs.lemmas.Bool.{cond_true, cond_false, cases_eq, eq-eqb, ne_eqb, or_right}
+use Rattle.std.proofs.lemmas.Bool.{cond-true, cond-false, cases_eq, eq-eqb, ne_eqb, or_right}
 use Rattle.sets.specs.Bits.{Serials}
 use Rattle.weave.specs.Versions.{Lists, Delta, Marked, marks, or_else, marked_or, members}
 use Rattle.weave.proofs.OnlySet.{none_beyond}
@@ -56,9 +56,9 @@ module _ (s : Serials) (e : Delta) (es : List Delta) (v : ℕ) (m : Marked) (n v
       ap (λ b. s k || b) (down true m' k chosen marked)
       ∙ ⊎_elim
       (λ (same : k ≡ n).
-      ap (λ b. s k || b) (cond_true _ true rest (eq-eqb k n same)) ∙ or_true (s k) rest ∙ ap (λ b. (s k || b) || rest) (sym (eq-eqb n k (sym same))) ∙ ap (λ b. b || rest) (sym (more k)))
+      ap (λ b. s k || b) (cond-true _ true rest (eq-eqb k n same)) ∙ or_true (s k) rest ∙ ap (λ b. (s k || b) || rest) (sym (eq-eqb n k (sym same))) ∙ ap (λ b. b || rest) (sym (more k)))
       (λ (apart : k ≡ n → ⊥).
-      ap (λ b. s k || b) (cond_false _ true rest (ne_eqb k n apart)) ∙ or_false (s k) rest ∙ ap (λ b. (s k || b) || rest) (sym (ne_eqb n k (λ e. apart (sym e)))) ∙ ap (λ b. b || rest) (sym (more k)))
+      ap (λ b. s k || b) (cond-false _ true rest (ne_eqb k n apart)) ∙ or_false (s k) rest ∙ ap (λ b. (s k || b) || rest) (sym (ne_eqb n k (λ e. apart (sym e)))) ∙ ap (λ b. b || rest) (sym (more k)))
       (cases_eq k n)
 
   -- the serial is out
@@ -67,8 +67,8 @@ module _ (s : Serials) (e : Delta) (es : List Delta) (v : ℕ) (m : Marked) (n v
       ap (λ b. s k || b)
       (down false m k chosen (λ _. refl)
       ∙ ⊎_elim
-      (λ (same : k ≡ n). cond_true _ _ _ (eq-eqb k n same) ∙ sym (none_beyond es v' m k (omega arith)))
-      (λ (apart : k ≡ n → ⊥). cond_false _ _ _ (ne_eqb k n apart))
+      (λ (same : k ≡ n). cond-true _ _ _ (eq-eqb k n same) ∙ sym (none_beyond es v' m k (omega arith)))
+      (λ (apart : k ≡ n → ⊥). cond-false _ _ _ (ne_eqb k n apart))
       (cases_eq k n))
 
 pub or_none : (b : Bool) → (b || false) ≡ b

@@ -2,7 +2,7 @@
 use Rattle.std.proofs.Common.{◌≡◌, ℕ, ◌+◌, ◌-◌, ◌<◌, ◌≤◌, Bool, true, false, cond, eqb, List, [], ◌∷◌, length, get_or, take, drop, Some, None, Ok, Err, Option, Result, sym, refl, ap, ◌∙◌, add-zero, zero-add, arith}
 use native.Mathlib.Nat.{sub-zero}
 use Rattle.std.proofs.lemmas.List.{at_drop_more, at_drop_all, length-append}
-use Rattle.std.proofs.lemmas.Bool.{cond_both, cond_true, cond_false}
+use Rattle.std.proofs.lemmas.Bool.{cond_both, cond-true, cond-false}
 use Rattle.lines.specs.declared.fault.Fault.{Fault}
 use Rattle.lines.specs.declared.fault.Cause.TheVariants.{BodyRule}
 use Rattle.lines.specs.Faults.{placed, verdict}
@@ -40,16 +40,16 @@ pub shown_more : (s : Serials) (ms : List Mark) (r : Record) (rs : List Record) 
 unfolding shown
 shown_more s ms (opens m) rs = refl
 shown_more s ms (ends n) rs = refl
-shown_more s ms (text l) rs = cond_both (visible s ms) (Some l) None (λ o. cond (visible s ms) (l ∷ shown s ms rs) (shown s ms rs) ≡ before o (shown s ms rs)) (cond_true _ _ _) (cond_false _ _ _)
+shown_more s ms (text l) rs = cond_both (visible s ms) (Some l) None (λ o. cond (visible s ms) (l ∷ shown s ms rs) (shown s ms rs) ≡ before o (shown s ms rs)) (cond-true _ _ _) (cond-false _ _ _)
 shown_more s ms wrong rs = refl
 
 pub breach_more : (top : ℕ) (ms : List Mark) (p : ℕ) (r : Record) (rs : List Record) → allowed top ms r ≡ true → breach top ms p (r ∷ rs) ≡ breach top (then_open ms r) (p + 1) rs
 unfolding breach
-breach_more top ms p r rs may = cond_true _ _ _ may
+breach_more top ms p r rs may = cond-true _ _ _ may
 
 pub breach_here : (top : ℕ) (ms : List Mark) (p : ℕ) (r : Record) (rs : List Record) → allowed top ms r ≡ false → breach top ms p (r ∷ rs) ≡ Some p
 unfolding breach
-breach_here top ms p r rs not_allowed = cond_false _ _ _ not_allowed
+breach_here top ms p r rs not_allowed = cond-false _ _ _ not_allowed
 
 abbrev pub fault_at : ℕ → Result Measure Fault
 fault_at p = Err (placed BodyRule p)

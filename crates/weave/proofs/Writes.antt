@@ -1,6 +1,6 @@
 -- The steps of a writer.
 use Rattle.std.proofs.Common.{◌≡◌, ℕ, ◌+◌, ◌-◌, ◌<◌, ◌≤◌, Bool, true, false, cond, List, [], ◌∷◌, ◌++◌, length, get_or, take, drop, set, Some, None, Option, sym, refl, ap, ◌∙◌, subst, arith}
-use Rattle.std.proofs.lemmas.List.{at_drop_more, at_drop_all, append_assoc, append-nil, length-append, length-take_le, take_at, drop_at, drop-drop, drop_more, set_at, length-drop, take-append-drop}
+use Rattle.std.proofs.lemmas.List.{at_drop_more, at_drop_all, append_assoc, append-nil, length-append, length-take-le, take_at, drop_at, drop-drop, drop_more, set_at, length-drop, take-append-drop}
 use Rattle.lines.specs.Lines.{Line, fronted}
 use Rattle.whole.specs.Whole.{row_at, text_of}
 use Rattle.sets.specs.Bits.{Serials}
@@ -26,7 +26,7 @@ written_more all was out new at l left w is =
     let fits = w.fits in
     let own = length-append l (10 ∷ []) in
     let rows = length-append l (10 ∷ text_of left) in
-    let a = length-take_le at out (omega arith) in
+    let a = length-take-le at out (omega arith) in
     let row = l ++ (10 ∷ []) in
     let front = take at out ++ row in
     let n = at + length l + 1 in
@@ -53,7 +53,7 @@ pub written_all : (was out : List ℕ) (at : ℕ) (ls : List Line) → Written (
 written_all was out at ls w =
     let fits = w.fits in
     let front : take at out ≡ text_of ls = sym (append-nil (take at out)) ∙ w.front in
-    let a = length-take_le at out (omega arith) in
+    let a = length-take-le at out (omega arith) in
     let here : at ≡ length (text_of ls) = sym a ∙ ap length front in
     sym (take-append-drop at out) ∙ ap (λ xs. xs ++ drop at out) front ∙ ap (λ ys. text_of ls ++ ys) (w.rest ∙ ap (λ k. drop k was) here)
 

@@ -4,7 +4,7 @@ use Rattle.std.specs.List.{AllByRecursion as All}
 use borrow.Rule.Slice.PartMut.{put_mid}
 use Rattle.std.proofs.lemmas.List.{take_at, take_more, drop_more, drop-drop, length-take, set_at}
 use Rattle.std.proofs.lemmas.Slice.{drop-append-drop}
-use Rattle.std.proofs.lemmas.Bool.{and_parts, not-true, leb-true, le-ltb, ne_eqb, eq-eqb, or_from, cond_true, cond_false}
+use Rattle.std.proofs.lemmas.Bool.{and_parts, not-true, leb-true, le-ltb, ne_eqb, eq-eqb, or_from, cond-true, cond-false}
 use Rattle.lines.specs.Lines.{Line, no_lf, is_line, Lawful, line_of, total, fronted}
 use Rattle.lines.specs.Rows.{Row, row, rows, before, wrong, first_wrong, wrong_row, lines_in, held}
 use Rattle.whole.specs.Whole.{text_of}
@@ -15,7 +15,7 @@ row_of : (l rest : List ℕ) → no_lf l ≡ true → rows (l ++ (10 ∷ rest)) 
 row_of [] rest h = refl
 row_of (b ∷ bs) rest h =
     let parts = and_parts (not (eqb b 10)) (no_lf bs) h in
-    cond_false _ _ _ (not-true (eqb b 10) parts.0) ∙ ap (before b) (row_of bs rest parts.1)
+    cond-false _ _ _ (not-true (eqb b 10) parts.0) ∙ ap (before b) (row_of bs rest parts.1)
 
 rows_of_text : (ls : List Line) → All (λ l. is_line l ≡ true) ls → rows (text_of ls) ≡ map (λ l. row l true) ls
 rows_of_text [] h = refl
@@ -27,7 +27,7 @@ none_wrong n [] few h = refl
 none_wrong n (l ∷ ls) few h =
     let short : length l ≤ 240 = leb-true _ _ (and_parts (leb (length l) 240) (no_lf l) h.0).0 in
     let good : wrong n (row l true) ≡ false = or_from _ _ (le-ltb 240 (length l) short) (or_from _ _ (ne_eqb n 4001 (λ e. omega arith)) refl) in
-    cond_false _ _ _ good ∙ none_wrong (n + 1) ls (omega arith) h.1
+    cond-false _ _ _ good ∙ none_wrong (n + 1) ls (omega arith) h.1
 
 bytes_of_rows : (ls : List Line) → map (λ r. r.bytes) (map (λ l. row l true) ls) ≡ ls
 bytes_of_rows [] = refl
@@ -36,7 +36,7 @@ bytes_of_rows (l ∷ ls) = ap (λ rest. l ∷ rest) (bytes_of_rows ls)
 pub text_back : (ls : List Line) → Lawful ls → lines_in (held (text_of ls)) ≡ ls
 text_back ls ok =
     let whole : wrong_row (text_of ls) ≡ 0 = ap (first_wrong 1) (rows_of_text ls ok.1) ∙ none_wrong 1 ls (omega (arith, ok.0)) ok.1 in
-    ap lines_in (cond_true _ _ _ (eq-eqb (wrong_row (text_of ls)) 0 whole)) ∙ ap (map (λ r. r.bytes)) (rows_of_text ls ok.1) ∙ bytes_of_rows ls
+    ap lines_in (cond-true _ _ _ (eq-eqb (wrong_row (text_of ls)) 0 whole)) ∙ ap (map (λ r. r.bytes)) (rows_of_text ls ok.1) ∙ bytes_of_rows ls
 
 -- the size of a text
 pub text_size : (ls : List Line) → length (text_of ls) ≡ total ls + length ls

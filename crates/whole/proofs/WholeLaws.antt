@@ -3,7 +3,7 @@ use Rattle.std.proofs.Common.{◌≡◌, ℕ, ◌+◌, ◌-◌, ◌*◌, ◌<◌
 use Rattle.std.specs.Str.{bytes_eq}
 use Rattle.std.proofs.lemmas.List.{length-take, take_more, drop_more, drop_all}
 use Rattle.std.proofs.lemmas.Slice.Eq.{bytes_eq-Decides}
-use Rattle.std.proofs.lemmas.Bool.{cases_Bool, cond_true, cond_false, and_parts, and_from, leb-true, lt-ltb, le-leb, not_from_true}
+use Rattle.std.proofs.lemmas.Bool.{cases_Bool, cond-true, cond-false, and_parts, and_from, leb-true, lt-ltb, le-leb, not_from_true}
 use Rattle.std.proofs.lemmas.List.Sums.{sum_by-cons, sum_by_more, sum_by-take-le}
 use Rattle.std.proofs.ByRecursion.{sum_by_le, All-get_or, All-weaker}
 use Rattle.lines.specs.Faults.{accepted}
@@ -38,13 +38,13 @@ pub alike_more : (ls ms : List Line) (i : ℕ) → i < length ls → i < length 
 alike_more ls ms i h k same =
     let back : i + 1 - 1 ≡ i = omega arith in
     let here : bytes_eq (get_or ls i []) (get_or ms i []) ≡ true = ap (λ j. bytes_eq (get_or ls j []) (get_or ms j [])) (sym back) ∙ same in
-    sym ((λ t. differ_from (i + 1) (drop_more ls i [] h t) (drop_more ms i [] k t)) ∙ cond_true _ _ _ here)
+    sym ((λ t. differ_from (i + 1) (drop_more ls i [] h t) (drop_more ms i [] k t)) ∙ cond-true _ _ _ here)
 
 pub differ_here : (ls ms : List Line) (i : ℕ) → i < length ls → i < length ms → bytes_eq (line_of ls (i + 1)) (line_of ms (i + 1)) ≡ false → differ_from (i + 1) (drop i ls) (drop i ms) ≡ Some (i + 1)
 differ_here ls ms i h k other =
     let back : i + 1 - 1 ≡ i = omega arith in
     let here : bytes_eq (get_or ls i []) (get_or ms i []) ≡ false = ap (λ j. bytes_eq (get_or ls j []) (get_or ms j [])) (sym back) ∙ other in
-    (λ t. differ_from (i + 1) (drop_more ls i [] h t) (drop_more ms i [] k t)) ∙ cond_false _ _ _ here
+    (λ t. differ_from (i + 1) (drop_more ls i [] h t) (drop_more ms i [] k t)) ∙ cond-false _ _ _ here
 
 pub both_end : (ls ms : List Line) (i n : ℕ) → length ls ≤ i → length ms ≤ i → differ_from n (drop i ls) (drop i ms) ≡ None
 both_end ls ms i n h k = λ t. differ_from n (drop_all i ls h t) (drop_all i ms k t)
@@ -63,10 +63,10 @@ equal_from n (l ∷ ls) [] e = let z : ◌≡◌ {A = ℕ} 0 1 = cc in absurd (o
 equal_from n (l ∷ ls) (m ∷ ms) e =
     ⊎_elim
     (λ (h : bytes_eq l m ≡ true).
-    let rest : ls ≡ ms = equal_from (n + 1) ls ms (sym (cond_true _ _ _ h) ∙ e) in
+    let rest : ls ≡ ms = equal_from (n + 1) ls ms (sym (cond-true _ _ _ h) ∙ e) in
     let first : l ≡ m = (bytes_eq-Decides l m).0 h in
     λ t. first t ∷ rest t)
-    (λ (h : bytes_eq l m ≡ false). let never : Some n ≡ None = sym (cond_false _ _ _ h) ∙ e in let z : ◌≡◌ {A = ℕ} 0 1 = cc in absurd (omega arith))
+    (λ (h : bytes_eq l m ≡ false). let never : Some n ≡ None = sym (cond-false _ _ _ h) ∙ e in let z : ◌≡◌ {A = ℕ} 0 1 = cc in absurd (omega arith))
     (cases_Bool (bytes_eq l m))
 
 -- the next line of a source that fits has room in the draft of those before it
@@ -90,7 +90,7 @@ module _ (lim : ℕ × ℕ) (ls : List Line) (ok : Lawful ls) (room' : fits lim 
 -- a list does not differ from itself
 pub no_difference : (n : ℕ) (ls : List Line) → differ_from n ls ls ≡ None
 no_difference n [] = refl
-no_difference n (l ∷ ls) = cond_true _ _ _ ((bytes_eq-Decides l l).1 refl) ∙ no_difference (n + 1) ls
+no_difference n (l ∷ ls) = cond-true _ _ _ ((bytes_eq-Decides l l).1 refl) ∙ no_difference (n + 1) ls
 
 pub never_differ : (ls ms : List Line) → ls ≡ ms → differ_from 1 ls ms ≡ None
 never_differ ls ms same = ap (differ_from 1 ls) (sym same) ∙ no_difference 1 ls

@@ -1,6 +1,6 @@
 use Rattle.std.proofs.Common.{◌≡◌, ℕ, ◌+◌, ◌-◌, cond, not, ◌&&◌, ◌||◌, eqb, [], length, get_or, drop, sym, refl, ap, ◌∙◌, arith}
 use Rattle.std.proofs.lemmas.List.{at_drop_more, at_drop_all, length-map, length-drop}
-use Rattle.std.proofs.lemmas.Bool.{cond_true, cond_false, eq-eqb, ne_eqb}
+use Rattle.std.proofs.lemmas.Bool.{cond-true, cond-false, eq-eqb, ne_eqb}
 use Rattle.weave.specs.Versions.{marks, members}
 use Rattle.sets.specs.Serials.{serials}
 use Rattle.weave.specs.Tables.{lists, delta_of, deltas}
@@ -31,8 +31,8 @@ loop-i-preserved c k =
     let here = at_drop_more (λ xs. s k || members (deltas xs) v m k) table i blank c.loop-i-test.true in
     let count : n ≡ length es + 1 = omega (arith, length-map (drop (i + 1) table) delta_of, length-drop (i + 1) table) in
     let reached : v' ≡ cond (eqb v n) e.predecessor v = elim c.if-reached-n.branch [
-      | then-reached-n w ↦ w.reached-is ∙ sym (cond_true _ _ _ (eq-eqb v n w.if-reached-n.true))
-      | else-reached-n w ↦ w.reached-is ∙ sym (cond_false _ _ _ (ne_eqb v n w.if-reached-n.false))
+      | then-reached-n w ↦ w.reached-is ∙ sym (cond-true _ _ _ (eq-eqb v n w.if-reached-n.true))
+      | else-reached-n w ↦ w.reached-is ∙ sym (cond-false _ _ _ (ne_eqb v n w.if-reached-n.false))
     ] in
     c.loop-i.invariant k ∙ here
     ∙ elim c.if-is-in.branch [

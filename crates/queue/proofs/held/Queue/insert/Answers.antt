@@ -1,6 +1,6 @@
 use Rattle.std.proofs.Common.{◌≡◌, ℕ, ◌+◌, false, eqb, List, length, take, sym, ap, ◌∙◌, subst, arith}
 use Rattle.std.specs.List.{insert}
-use Rattle.std.proofs.lemmas.Bool.{cond_false, ne_eqb}
+use Rattle.std.proofs.lemmas.Bool.{cond-false, ne_eqb}
 use Rattle.queue.specs.Slots.{keys, Rising, holds, place, with_slot}
 use Rattle.queue.specs.declared.slots.Slot.{Slot}
 use Rattle.queue.proofs.Front.{front_length}
@@ -43,7 +43,7 @@ returns g c =
     let stored : take (q.len + 1) c.open.new.self.all.now ≡ with_slot (as-slot k) ss =
     put ∙ ap (λ i. insert ss i (as-slot c.key-key.result)) at ∙ ap (λ j. insert ss (place j ss) (as-slot j)) key ∙ sym (with_slot_at (as-slot k) ss) in
     record {
-      answer = sym (cond_false _ _ _ free ∙ cond_false _ _ _ space);
-      after = stored ∙ sym (cond_false _ _ _ free ∙ cond_false _ _ _ space);
+      answer = sym (cond-false _ _ _ free ∙ cond-false _ _ _ space);
+      after = stored ∙ sym (cond-false _ _ _ free ∙ cond-false _ _ _ space);
       room = c.open.ensures.room;
     }
