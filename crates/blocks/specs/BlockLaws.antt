@@ -5,7 +5,7 @@
 -- list_lawful, draft_lawful, limits_lawful  list, draft and limits of a block are those of a line store
 use Rattle.std.specs.Prelude.{◌≡◌, ℕ, zero, suc, ◌*◌, ◌≤◌, true, not, ◌&&◌, List, [], length, Some, None, nat_le, refl}
 use Rattle.std.proofs.Common.{sym, subst, ◌∙◌, ⊎_elim, arith}
-use Rattle.std.specs.List.{AllByRecursion as All}
+use Rattle.std.specs.List.{AllByRecursion}
 use Rattle.std.proofs.lemmas.List.{length_push}
 use Rattle.std.proofs.ByRecursion.{All-push}
 use Rattle.std.proofs.lemmas.Bool.{cases_Bool, and_parts, leb-true, cond-true, cond-false}
@@ -18,7 +18,7 @@ pub length-firsts : (f : ℕ → Line) (n : ℕ) → length (firsts f n) ≡ n
 length-firsts f zero = refl
 length-firsts f (suc n) = length_push (firsts f n) (f n) ∙ (rw (length-firsts f n) (omega arith))
 
-pub all_firsts : (P : Line → Type 0) (f : ℕ → Line) → ((i : ℕ) → P (f i)) → (n : ℕ) → All P (firsts f n)
+pub all_firsts : (P : Line → Type 0) (f : ℕ → Line) → ((i : ℕ) → P (f i)) → (n : ℕ) → AllByRecursion P (firsts f n)
 all_firsts P f h zero = tt
 all_firsts P f h (suc n) = All-push P (firsts f n) (f n) (all_firsts P f h n) (h n)
 
@@ -38,7 +38,7 @@ standing size b m h =
     let s = and_parts (nat_le m.count m.lines) (nat_le m.draft m.lines) p.1 in
     record { few = leb-true _ _ q.0; small = leb-true _ _ r.0; counted = leb-true _ _ s.0; drafts = leb-true _ _ s.1; sheets = leb-true _ _ r.1 }
 
-module _ (lines : Meaning) (size : Size) (size_is : (L : ℕ) (s : List ℕ) (n : ℕ) → length (lines L s n) ≡ n) (lines_are : (L : ℕ) (s : List ℕ) (n : ℕ) → All (λ l. is_line l ≡ true) (lines L s n)) (b : List ℕ) (m : Marks) where
+module _ (lines : Meaning) (size : Size) (size_is : (L : ℕ) (s : List ℕ) (n : ℕ) → length (lines L s n) ≡ n) (lines_are : (L : ℕ) (s : List ℕ) (n : ℕ) → AllByRecursion (λ l. is_line l ≡ true) (lines L s n)) (b : List ℕ) (m : Marks) where
   pub list_lawful : Lawful (list_of lines size b m)
   list_lawful =
       let s : List ℕ = sheet_of (size_of size m) b m.second in

@@ -3,7 +3,7 @@
 -- indexed_grows, indexed_counted, indexed_lawful, indexed_laid, indexed_kind  what a layout has to show, of this one
 use Rattle.std.specs.Prelude.{◌≡◌, ℕ, ◌*◌, ◌≤◌, true, false, not, List, [], ◌∷◌, map, length, take, drop, ◌==◌, nat_eq, nat_le, refl}
 use Rattle.std.proofs.Common.{ap, ◌∙◌, ⊎_elim, arith}
-use Rattle.std.specs.List.{AllByRecursion as All}
+use Rattle.std.specs.List.{AllByRecursion}
 use Rattle.std.proofs.lemmas.List.{length-map, length-take}
 use Rattle.std.proofs.lemmas.Bool.{cases_Bool, cond-true, cond-false, and_from, not_from_false, le-leb}
 use Rattle.lines.specs.Lines.{no_lf, is_line, LawfulKind}
@@ -28,13 +28,13 @@ line_at_is_line x t n =
 pub length-walk : (x t : List ℕ) (n : ℕ) → length (walk x t n) ≡ n
 length-walk x t n = length-firsts (λ i. line_at x t i) n
 
-walk_lines : (x t : List ℕ) (n : ℕ) → All (λ l. is_line l ≡ true) (walk x t n)
+walk_lines : (x t : List ℕ) (n : ℕ) → AllByRecursion (λ l. is_line l ≡ true) (walk x t n)
 walk_lines x t n = all_firsts (λ l. is_line l ≡ true) (λ i. line_at x t i) (λ i. line_at_is_line x t i) n
 
 pub indexed_counted : (L : ℕ) (s : List ℕ) (n : ℕ) → length (indexed_lines L s n) ≡ n
 indexed_counted L s n = length-walk s (drop (4 * L) s) n
 
-pub indexed_lawful : (L : ℕ) (s : List ℕ) (n : ℕ) → All (λ l. is_line l ≡ true) (indexed_lines L s n)
+pub indexed_lawful : (L : ℕ) (s : List ℕ) (n : ℕ) → AllByRecursion (λ l. is_line l ≡ true) (indexed_lines L s n)
 indexed_lawful L s n = walk_lines s (drop (4 * L) s) n
 
 pub indexed_grows : (L B : ℕ) → indexed_size L 0 ≤ indexed_size L B

@@ -3,7 +3,7 @@
 -- packed_grows, packed_counted, packed_lawful, packed_laid, packed_kind  what a layout has to show, of this one
 use Rattle.std.specs.Prelude.{◌≡◌, ℕ, zero, suc, ◌≤◌, true, false, cond, not, List, [], ◌∷◌, length, take, drop, ◌==◌, nat_le, refl}
 use Rattle.std.proofs.Common.{ap, ◌∙◌, ⊎_elim, arith}
-use Rattle.std.specs.List.{AllByRecursion as All}
+use Rattle.std.specs.List.{AllByRecursion}
 use Rattle.std.proofs.lemmas.List.{length-take}
 use Rattle.std.proofs.lemmas.Bool.{cases_Bool, cond-true, cond-false, and_from, not_from_false, le-leb}
 use Rattle.lines.specs.Lines.{no_lf, is_line, LawfulKind}
@@ -34,7 +34,7 @@ packed_line_is_line s n =
     let long = length-take (upto (take 240 t)) t in
     and_from (nat_le (length (packed_line s n)) 240) (no_lf (packed_line s n)) (le-leb _ _ (omega arith)) (no_lf-upto 240 t)
 
-pub packed_lawful : (s : List ℕ) (n : ℕ) → All (λ l. is_line l ≡ true) (packed_lines s n)
+pub packed_lawful : (s : List ℕ) (n : ℕ) → AllByRecursion (λ l. is_line l ≡ true) (packed_lines s n)
 packed_lawful s n = all_firsts (λ l. is_line l ≡ true) (λ i. packed_line s i) (λ i. packed_line_is_line s i) n
 
 pub packed_counted : (s : List ℕ) (n : ℕ) → length (packed_lines s n) ≡ n

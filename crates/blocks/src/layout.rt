@@ -1,5 +1,5 @@
 ghost use Rattle.std.specs.Prelude.{◌≡◌, ℕ, ◌+◌, ◌-◌, ◌<◌, ◌≤◌, true, false, List, [], ◌∷◌, ◌++◌, length, ◌==◌, slice_set};
-ghost use Rattle.std.specs.List.{AllByRecursion as All};
+ghost use Rattle.std.specs.List.{AllByRecursion};
 ghost use Rattle.lines.specs.Faults.{verdict, left};
 ghost use Rattle.lines.specs.Lines.{is_line, LawfulKind, line_of, fronted, room, read_refusal};
 
@@ -27,7 +27,7 @@ pub trait Layout: Default {
 
     ghost counted: { (L : ℕ) (s : List ℕ) (n : ℕ) → length (lines L s n) ≡ n };
 
-    ghost lawful: { (L : ℕ) (s : List ℕ) (n : ℕ) → All (λ l. is_line l ≡ true) (lines L s n) };
+    ghost lawful: { (L : ℕ) (s : List ℕ) (n : ℕ) → AllByRecursion (λ l. is_line l ≡ true) (lines L s n) };
 
     ghost laid_none: { (L : ℕ) (s : List ℕ) → laid L s [] };
 

@@ -1,6 +1,6 @@
 -- Every head that is read is whole, and has no more records than there are lines. Assumes nothing.
 use Rattle.std.proofs.Common.{◌≡◌, ℕ, ◌+◌, ◌-◌, ◌<◌, ◌≤◌, Bool, true, false, cond, not, ◌&&◌, ◌||◌, eqb, ltb, leb, ◌⊎◌, List, [], ◌∷◌, ◌++◌, length, Some, None, Ok, Err, Option, Result, sym, refl, ap, ◌∙◌, subst, inl, inr, ⊎_elim, arith}
-use Rattle.std.specs.List.{AllByRecursion as All}
+use Rattle.std.specs.List.{AllByRecursion}
 use Rattle.std.proofs.ByRecursion.{All-push}
 use Rattle.std.proofs.lemmas.List.{length_push}
 use Rattle.std.proofs.lemmas.Bool.{and_parts, or_parts, or_cases, not-true, ltb-true, leb-true, eqb-true}
@@ -25,7 +25,7 @@ IsWhole (Err f) = Unit {0}
 
 -- the entries so far run from a down to the one before b
 abbrev Sofar : ℕ → List Entry → ℕ → Type 0
-Sofar a es b = (a ≤ 63) × Runs a es b × All Lower es × Differ es
+Sofar a es b = (a ≤ 63) × Runs a es b × AllByRecursion Lower es × Differ es
 
 abbrev Ready : List Entry → Type 0
 Ready es = (es ≡ []) ⊎ ((a : ℕ) × (b : ℕ) × Sofar a es b)

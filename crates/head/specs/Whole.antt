@@ -8,7 +8,7 @@
 -- Differ es    no SID stands twice
 -- Whole es     1 to 63 entries with serials from their number down to 1, each Lower, and no SID twice
 use Rattle.std.specs.Prelude.{◌≡◌, ℕ, ◌-◌, ◌<◌, ◌≤◌, true, false, List, [], ◌∷◌, length}
-use Rattle.std.specs.List.{AllByRecursion as All}
+use Rattle.std.specs.List.{AllByRecursion}
 use Rattle.sets.specs.declared.set.SerialSet.{SerialSet}
 use Rattle.sets.specs.Serials.{serials}
 use Rattle.head.specs.declared.table.Entry.{Entry}
@@ -30,11 +30,11 @@ Lower e =
 
 abbrev pub Differ : List Entry → Type 0
 Differ [] = Unit {0}
-Differ (e ∷ es) = All (λ f. same_sid e.sid f.sid ≡ false) es × Differ es
+Differ (e ∷ es) = AllByRecursion (λ f. same_sid e.sid f.sid ≡ false) es × Differ es
 
 pub record Whole (es : List Entry) : Type 0 where
   pub some : 1 ≤ length es
   pub few : length es ≤ 63
   pub runs : Runs (length es) es 0
-  pub lower : All Lower es
+  pub lower : AllByRecursion Lower es
   pub differ : Differ es

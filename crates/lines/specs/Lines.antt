@@ -16,7 +16,7 @@
 -- put_refusal ..  the refusal of putting a line of some length into a buffer
 -- x_refusal ..    the refusal of the call x; its checks stand in their order
 use Rattle.std.specs.Prelude.{◌≡◌, ℕ, ◌+◌, ◌-◌, ◌≤◌, Bool, true, not, ◌&&◌, ◌||◌, List, [], ◌∷◌, ◌++◌, length, drop, Some, None, Option, ◌==◌, nat_le, nat_lt, slice_index_or}
-use Rattle.std.specs.List.{AllByRecursion as All}
+use Rattle.std.specs.List.{AllByRecursion}
 use Rattle.lines.specs.declared.fault.Cause.TheVariants.{NoSuchLine, ReadBufferShort, NotALine, NoRoom, OtherLength, NoDraft}
 use Rattle.lines.specs.Faults.{Refusal, accepted, plain, when}
 
@@ -31,7 +31,7 @@ abbrev pub is_line : Line → Bool
 is_line l = nat_le (length l) 240 && no_lf l
 
 abbrev pub Lawful : List Line → Type 0
-Lawful ls = (length ls ≤ 4000) × All (λ l. is_line l ≡ true) ls
+Lawful ls = (length ls ≤ 4000) × AllByRecursion (λ l. is_line l ≡ true) ls
 
 abbrev pub LawfulDraft : Option (List Line) → Type 0
 LawfulDraft None = Unit {0}

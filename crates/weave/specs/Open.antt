@@ -6,7 +6,7 @@
 -- open_marks q  the marks in a queue, by rising serial
 -- Bounded top ms the serials are from 1 to `top`
 use Rattle.std.specs.Prelude.{ℕ, ◌≤◌, List, map}
-use Rattle.std.specs.List.{AllByRecursion as All}
+use Rattle.std.specs.List.{AllByRecursion}
 use Rattle.records.specs.BodyRecords as body
 use Rattle.queue.specs.declared.slots.Slot.{Slot}
 use Rattle.queue.specs.declared.held.Queue.{Queue}
@@ -29,4 +29,4 @@ abbrev pub open_marks : Queue Mark → List body.Mark
 open_marks q = map mark_of (items q)
 
 abbrev pub Bounded : ℕ → List body.Mark → Type 0
-Bounded top ms = All (λ m. (1 ≤ body.serial m) × (body.serial m ≤ top)) ms
+Bounded top ms = AllByRecursion (λ m. (1 ≤ body.serial m) × (body.serial m ≤ top)) ms

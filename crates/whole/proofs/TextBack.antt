@@ -1,6 +1,6 @@
 -- A list of lines written as a text reads back as that list. Assumes nothing.
 use Rattle.std.proofs.Common.{◌≡◌, ℕ, ◌+◌, ◌-◌, ◌<◌, ◌≤◌, true, false, not, ◌&&◌, eqb, leb, List, [], ◌∷◌, ◌++◌, map, length, get_or, take, drop, set, sym, refl, ap, ◌∙◌, append_assoc, arith, length-append}
-use Rattle.std.specs.List.{AllByRecursion as All}
+use Rattle.std.specs.List.{AllByRecursion}
 use borrow.Rule.Slice.PartMut.{put_mid}
 use Rattle.std.proofs.lemmas.List.{take_at, take_more, drop_more, drop-drop, length-take, set_at}
 use Rattle.std.proofs.lemmas.Slice.{drop-append-drop}
@@ -17,12 +17,12 @@ row_of (b ∷ bs) rest h =
     let parts = and_parts (not (eqb b 10)) (no_lf bs) h in
     cond-false _ _ _ (not-true (eqb b 10) parts.0) ∙ ap (before b) (row_of bs rest parts.1)
 
-rows_of_text : (ls : List Line) → All (λ l. is_line l ≡ true) ls → rows (text_of ls) ≡ map (λ l. row l true) ls
+rows_of_text : (ls : List Line) → AllByRecursion (λ l. is_line l ≡ true) ls → rows (text_of ls) ≡ map (λ l. row l true) ls
 rows_of_text [] h = refl
 rows_of_text (l ∷ ls) h =
     row_of l (text_of ls) (and_parts (leb (length l) 240) (no_lf l) h.0).1 ∙ ap (λ rs. row l true ∷ rs) (rows_of_text ls h.1)
 
-none_wrong : (n : ℕ) (ls : List Line) → n + length ls ≤ 4001 → All (λ l. is_line l ≡ true) ls → first_wrong n (map (λ l. row l true) ls) ≡ 0
+none_wrong : (n : ℕ) (ls : List Line) → n + length ls ≤ 4001 → AllByRecursion (λ l. is_line l ≡ true) ls → first_wrong n (map (λ l. row l true) ls) ≡ 0
 none_wrong n [] few h = refl
 none_wrong n (l ∷ ls) few h =
     let short : length l ≤ 240 = leb-true _ _ (and_parts (leb (length l) 240) (no_lf l) h.0).0 in

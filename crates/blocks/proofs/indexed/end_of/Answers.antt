@@ -6,5 +6,5 @@ pub loop-row-preserved : goal.loop-row-preserved
 loop-row-preserved c =
     let e = ends_more c.args.index.now c.args.room c.loop-row.row in
     let p = c.loop-row.invariant.0 in
-    let s = c.span-at-start.ensures in
+    let s = c.span_at-start.ensures in
     (cc, omega arith)

@@ -6,11 +6,11 @@ use Rattle.blocks.proofs.packed.stop_of.Goals as goal
 step : (s : List ℕ) (i : ℕ) → stops s (i + 1) ≡ stops s i + reach s (stops s i) + 1
 step s i = rw (add-one i) refl
 
-pub overflow-add-start : goal.overflow-add-start
-overflow-add-start c = let h = reach_short c.args.sheet.now c.loop-line.start in let e = c.scan.ensures in omega arith
+pub overflow_add-start : goal.overflow_add-start
+overflow_add-start c = let h = reach_short c.args.sheet.now c.loop-line.start in let e = c.scan.ensures in omega arith
 
-pub overflow-add-start-in-loop-line : goal.overflow-add-start-in-loop-line
-overflow-add-start-in-loop-line c = let h = reach_short c.args.sheet.now c.loop-line.start in let e = c.scan.ensures in omega arith
+pub overflow_add-start-in-loop-line : goal.overflow_add-start-in-loop-line
+overflow_add-start-in-loop-line c = let h = reach_short c.args.sheet.now c.loop-line.start in let e = c.scan.ensures in omega arith
 
 pub loop-line-preserved : goal.loop-line-preserved
 loop-line-preserved c =

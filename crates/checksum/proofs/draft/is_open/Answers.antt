@@ -4,4 +4,4 @@ use Rattle.checksum.proofs.draft.is_open.Goals as goal
 
 pub returns : goal.returns
 returns g c =
-    ap (λ k. eqb k 7) c.unwrap-or.ensures ∙ open_is (g.S.LineStore.draft c.args.below.now) _ _ c.glance.ensures
+    ap (λ k. eqb k 7) c.unwrap_or.ensures ∙ open_is (g.S.LineStore.draft c.args.below.now) _ _ c.glance.ensures

@@ -9,7 +9,7 @@ pub loop-n-preserved : goal.loop-n-preserved
 loop-n-preserved g c =
     let ls = g.S.LineSource.lines c.args.source.now in (
       c.fetch-len.auto.buf ∙ c.loop-n.invariant.0,
-      sum_more ls c.args.skipped c.loop-n.n c.loop-n.total _ _ (omega (arith, c.count-count.ensures)) (c.fetch-len.ensures.whole (omega arith) (omega arith)) c.add-line-total.ensures c.loop-n.invariant.1,
+      sum_more ls c.args.skipped c.loop-n.n c.loop-n.total _ _ (omega (arith, c.count-count.ensures)) (c.fetch-len.ensures.whole (omega arith) (omega arith)) c.add_line-total.ensures c.loop-n.invariant.1,
     )
 
 pub returns : goal.returns

@@ -11,7 +11,7 @@ returns g c =
     let n = c.args.n in
     let buf = c.args.buf.now in
     let q = read_refusal ls n (length buf) in
-    let len : c.unwrap-or.result ≡ left q (length (line_of ls n)) 0 = c.unwrap-or.ensures ∙ ap (λ r. result_unwrap_or r 0) c.read.ensures.answer ∙ value_of q (length (line_of ls n)) in
+    let len : c.unwrap_or.result ≡ left q (length (line_of ls n)) 0 = c.unwrap_or.ensures ∙ ap (λ r. result_unwrap_or r 0) c.read.ensures.answer ∙ value_of q (length (line_of ls n)) in
     record {
       len = len;
       bytes = c.read.ensures.bytes;

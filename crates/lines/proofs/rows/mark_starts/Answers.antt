@@ -26,9 +26,9 @@ passed_here bs starts i part below k h =
     let less : 64 * k < i = ⊎_elim (λ (e : 64 * k ≡ i). absurd (part (omega arith))) (λ (ne : 64 * k ≡ i → ⊥). omega arith) (cases_eq (64 * k) i) in
     below k less
 
-pub overflow-add-at : goal.overflow-add-at
-overflow-add-at c =
-    omega (arith, row_within c.args.bytes.now c.loop-i.at c.row-end-at.result (c.loop-i.i + 1) c.loop-i.invariant.1 c.row-end-at.ensures (omega arith) (omega arith))
+pub overflow_add-at : goal.overflow_add-at
+overflow_add-at c =
+    omega (arith, row_within c.args.bytes.now c.loop-i.at c.row_end-at.result (c.loop-i.i + 1) c.loop-i.invariant.1 c.row_end-at.ensures (omega arith) (omega arith))
 
 pub loop-i-init : goal.loop-i-init
 loop-i-init c = (refl, refl, λ k h. absurd (omega arith))
@@ -38,7 +38,7 @@ loop-i-preserved c =
     let bs : List ℕ = c.args.bytes.now in
     let i : ℕ = c.loop-i.i in
     let inv = c.loop-i.invariant in
-    let next : c.row-end-at.result + 1 ≡ start_of (lines_in bs) (i + 1 + 1) = next_start bs c.loop-i.at c.row-end-at.result (i + 1) inv.1 c.row-end-at.ensures (omega arith) (omega arith) in
+    let next : c.row_end-at.result + 1 ≡ start_of (lines_in bs) (i + 1 + 1) = next_start bs c.loop-i.at c.row_end-at.result (i + 1) inv.1 c.row_end-at.ensures (omega arith) (omega arith) in
     elim c.if-i-eq0.branch [
       | then-i-eq0 w ↦ (
         ap length w.starts-is ∙ length-set c.loop-i.starts (i / 64) c.loop-i.at ∙ inv.0,

@@ -3,8 +3,8 @@ use Rattle.records.specs.Numerals.{digit}
 use Rattle.records.proofs.Bytes.{every_more, every_stop, every_end}
 use Rattle.records.proofs.head_record.are_digits.Goals as goal
 
-pub loop_b_preserved : goal.loop-b-preserved
-loop_b_preserved c = sym (every_more digit c.args.word.now c.loop-b.b-index c.loop-b-test.true (sym c.if-not-is-digit.ensures)) ∙ c.loop-b.invariant
+pub loop-b-preserved : goal.loop-b-preserved
+loop-b-preserved c = sym (every_more digit c.args.word.now c.loop-b.b-index c.loop-b-test.true (sym c.if-not-is-digit.ensures)) ∙ c.loop-b.invariant
 
 pub returns-then-not-is-digit : goal.returns-then-not-is-digit
 returns-then-not-is-digit c = sym (sym c.loop-b.invariant ∙ every_stop digit c.args.word.now c.loop-b.b-index c.loop-b-test.true (sym c.if-not-is-digit.ensures))

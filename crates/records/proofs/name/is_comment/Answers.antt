@@ -4,8 +4,8 @@ use Rattle.records.specs.Names.{every, comment_byte}
 use Rattle.records.proofs.Bytes.{every_more, every_stop, every_end}
 use Rattle.records.proofs.name.is_comment.Goals as goal
 
-pub loop_b_preserved : goal.loop-b-preserved
-loop_b_preserved c = sym (every_more comment_byte c.args.word.now c.loop-b.b-index c.loop-b-test.true (sym c.if-not-is-comment-byte.ensures)) ∙ c.loop-b.invariant
+pub loop-b-preserved : goal.loop-b-preserved
+loop-b-preserved c = sym (every_more comment_byte c.args.word.now c.loop-b.b-index c.loop-b-test.true (sym c.if-not-is-comment-byte.ensures)) ∙ c.loop-b.invariant
 
 pub returns-then-not-is-comment-byte : goal.returns-then-not-is-comment-byte
 returns-then-not-is-comment-byte c =

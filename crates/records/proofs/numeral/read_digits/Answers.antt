@@ -9,8 +9,8 @@ overflow-mul-n c = omega (arith, ten_up c.loop-b.b-index 4 (omega arith))
 pub overflow-add-n : goal.overflow-add-n
 overflow-add-n c = omega (arith, ten_up c.loop-b.b-index 4 (omega arith))
 
-pub loop_b_preserved : goal.loop-b-preserved
-loop_b_preserved c =
+pub loop-b-preserved : goal.loop-b-preserved
+loop-b-preserved c =
     let here : true ≡ digit (get_or c.args.word.now c.loop-b.b-index 0) = c.if-not-is-digit.ensures in (
       omega (arith, ten_more c.loop-b.b-index, digit_small (get_or c.args.word.now c.loop-b.b-index 0) (sym here), c.from.ensures),
       ap (λ v. reads (c.loop-b.n * 10 + v) (drop (c.loop-b.b-index + 1) c.args.word.now)) c.from.ensures

@@ -5,19 +5,19 @@ use Rattle.whole.specs.Whole.{differ_from, first_difference}
 use Rattle.whole.proofs.WholeLaws.{alike_more, differ_here, both_end, first_longer, second_longer, equal_from, never_differ}
 use Rattle.whole.proofs.compared.first_difference.Goals as goal
 
-pub returns-then-not-same-line : goal.returns-then-not-same-line
-returns-then-not-same-line g c =
+pub returns-then-not-same_line : goal.returns-then-not-same_line
+returns-then-not-same_line g c =
     let left : List Line = g.A.LineSource.lines c.args.a.now in
     let right : List Line = g.B.LineSource.lines c.args.b.now in
     let i : ℕ = c.loop-i.i in
-    let is : Some (i + 1) ≡ first_difference left right = sym (differ_here left right i (omega arith) (omega arith) (sym c.if-not-same-line.ensures)) ∙ c.loop-i.invariant in
+    let is : Some (i + 1) ≡ first_difference left right = sym (differ_here left right i (omega arith) (omega arith) (sym c.if-not-same_line.ensures)) ∙ c.loop-i.invariant in
     record { value = is; equal = λ none. let z : ◌≡◌ {A = ℕ} 0 1 = cc in absurd (omega arith); none = λ same. is ∙ never_differ left right same }
 
 pub loop-i-preserved : goal.loop-i-preserved
 loop-i-preserved g c =
     let left : List Line = g.A.LineSource.lines c.args.a.now in
     let right : List Line = g.B.LineSource.lines c.args.b.now in
-    alike_more left right c.loop-i.i (omega arith) (omega arith) (sym c.if-not-same-line.ensures) ∙ c.loop-i.invariant
+    alike_more left right c.loop-i.i (omega arith) (omega arith) (sym c.if-not-same_line.ensures) ∙ c.loop-i.invariant
 
 pub returns-then-left-right : goal.returns-then-left-right
 returns-then-left-right g c =

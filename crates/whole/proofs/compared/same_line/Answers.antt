@@ -11,9 +11,9 @@ returns g c =
     let n = c.args.n in
     let a = line_of (g.A.LineSource.lines c.args.a.now) n in
     let b = line_of (g.B.LineSource.lines c.args.b.now) n in
-    let xs = take (c.fetch-left-len.result - 0) c.fetch-left-len.new.buf in
-    let ys = take (c.fetch-right-len.result - 0) c.fetch-right-len.new.buf in
-    let left : xs ≡ a = ap (λ k. take k c.fetch-left-len.new.buf) (sub-zero c.fetch-left-len.result) ∙ c.fetch-left-len.ensures.whole (omega arith) (omega arith) in
-    let right : ys ≡ b = ap (λ k. take k c.fetch-right-len.new.buf) (sub-zero c.fetch-right-len.result) ∙ c.fetch-right-len.ensures.whole (omega arith) (omega arith) in
+    let xs = take (c.fetch-left_len.result - 0) c.fetch-left_len.new.buf in
+    let ys = take (c.fetch-right_len.result - 0) c.fetch-right_len.new.buf in
+    let left : xs ≡ a = ap (λ k. take k c.fetch-left_len.new.buf) (sub-zero c.fetch-left_len.result) ∙ c.fetch-left_len.ensures.whole (omega arith) (omega arith) in
+    let right : ys ≡ b = ap (λ k. take k c.fetch-right_len.new.buf) (sub-zero c.fetch-right_len.result) ∙ c.fetch-right_len.ensures.whole (omega arith) (omega arith) in
     same_from_decides _ _ (slice_eq-Decides Decides-eqb xs ys c.eq.result c.eq.ensures) (bytes_eq-Decides xs ys)
     ∙ ap (λ l. bytes_eq l ys) left ∙ ap (bytes_eq a) right

@@ -11,8 +11,8 @@ loop-i-preserved g c =
     let long : c.fetch-bytes.result ≡ length (line_of ls (i + 1)) = read_length c.fetch-bytes.result c.fetch-bytes.new.buf (line_of ls (i + 1)) (c.fetch-bytes.ensures.whole (omega arith) (omega arith)) (omega arith) in
     (c.fetch-bytes.auto.buf ∙ c.loop-i.invariant.0, omega (arith, total-more ls i (omega arith), c.loop-i.invariant.1))
 
-pub overflow-add-bytes : goal.overflow-add-bytes
-overflow-add-bytes g c =
+pub overflow_add-bytes : goal.overflow_add-bytes
+overflow_add-bytes g c =
     let ls : List Line = g.S.LineSource.lines c.args.source.now in
     omega (arith, total-front ls c.loop-i.i, total-most ls (g.S.LineSource.lawful c.args.source.now), c.loop-i.invariant.1)
 

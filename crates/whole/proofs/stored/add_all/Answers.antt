@@ -12,13 +12,13 @@ use Rattle.whole.proofs.stored.add_all.Goals as goal
 accepts : (D : Option (List Line)) (lim lim' : ℕ × ℕ) (ls : List Line) (i : ℕ) (l : Line) → D ≡ Some (take i ls) → lim ≡ lim' → l ≡ line_of ls (i + 1) → Lawful ls → fits lim' ls ≡ true → i < length ls → add_refusal D lim l ≡ accepted
 accepts D lim lim' ls i l begun same is ok room h = (λ t. add_refusal (begun t) (same t) (is t)) ∙ next_room lim' ls ok room i h
 
-pub returns-in-err-add : goal.returns-in-err-add
-returns-in-err-add g c =
+pub returns-in_err-add : goal.returns-in_err-add
+returns-in_err-add g c =
     let ls : List Line = g.S.LineSource.lines c.args.source.now in
     let i : ℕ = c.loop-i.i in
     let front : take (c.fetch-len.result - 0) c.fetch-len.new.buf ≡ line_of ls (i + 1) = ap (λ k. take k c.fetch-len.new.buf) (sub-zero c.fetch-len.result) ∙ c.fetch-len.ensures.whole (omega arith) (omega arith) in
     let q = accepts _ _ _ ls i _ (ap (λ s. s.draft) c.loop-i.invariant.1) (ap (λ s. s.limits) c.loop-i.invariant.1) front (g.S.LineSource.lawful c.args.source.now) c.requires.room (omega arith) in
-    let never : Err c.in-err-add.field-0.0 ≡ Ok tt = c.in-err-add.ensures.answer ∙ ap (λ r. verdict r tt) q in
+    let never : Err c.in_err-add.field-0.0 ≡ Ok tt = c.in_err-add.ensures.answer ∙ ap (λ r. verdict r tt) q in
     let z : ◌≡◌ {A = ℕ} 0 1 = cc in
     absurd (omega arith)
 

@@ -29,6 +29,6 @@ returns c =
     let l = line_of-walk s t c.args.count c.args.number c.if-number-eq0.false c.if-count-number.false in
     let r = ap (λ z. line_at s z (c.args.number - 1)) (take_rest s (4 * c.args.limit)) ∙ sym l in
     record {
-      answer = c.read-at.ensures.answer ∙ (ap (λ z. verdict (put_refusal (length z) (length c.args.buf.now)) (length z)) r ∙ sym (ap (λ k. verdict k (length (line_of ls c.args.number))) q));
-      bytes = c.read-at.ensures.bytes ∙ (ap (λ z. left (put_refusal (length z) (length c.args.buf.now)) (fronted z c.args.buf.now) c.args.buf.now) r ∙ sym (ap (λ k. left k (fronted (line_of ls c.args.number) c.args.buf.now) c.args.buf.now) q));
+      answer = c.read_at.ensures.answer ∙ (ap (λ z. verdict (put_refusal (length z) (length c.args.buf.now)) (length z)) r ∙ sym (ap (λ k. verdict k (length (line_of ls c.args.number))) q));
+      bytes = c.read_at.ensures.bytes ∙ (ap (λ z. left (put_refusal (length z) (length c.args.buf.now)) (fronted z c.args.buf.now) c.args.buf.now) r ∙ sym (ap (λ k. left k (fronted (line_of ls c.args.number) c.args.buf.now) c.args.buf.now) q));
     }

@@ -27,7 +27,7 @@ returns-then-count-limit c =
 pub returns-then-bytes-start : goal.returns-then-bytes-start
 returns-then-bytes-start c =
     let s : List ℕ = c.args.sheet.now in
-    let u = used s c.args.limit c.args.bytes c.args.count c.end-of-start.result c.requires.size c.end-of-start.ensures.is in
+    let u = used s c.args.limit c.args.bytes c.args.count c.end_of-start.result c.requires.size c.end_of-start.ensures.is in
     record {
       answer = sym (and_right (ltb (length (indexed_lines c.args.limit s c.args.count)) c.args.limit) _ (lt-leb _ _ (omega arith)));
       taken = λ e. absurd (false≢true e);
@@ -38,11 +38,11 @@ returns-then-bytes-start c =
 pub returns : goal.returns
 returns c =
     let s : List ℕ = c.args.sheet.now in
-    let e = c.end-of-start.ensures.is in
+    let e = c.end_of-start.ensures.is in
     let r : length (drop (4 * c.args.limit) s) ≡ c.args.bytes = length-drop (4 * c.args.limit) s ∙ omega arith in
-    let u = used s c.args.limit c.args.bytes c.args.count c.end-of-start.result c.requires.size e in
+    let u = used s c.args.limit c.args.bytes c.args.count c.end_of-start.result c.requires.size e in
     let k = length-walk s (drop (4 * c.args.limit) s) c.args.count in
-    let w = stored s c.args.line.now c.copy-from-slice.new.self c.args.limit c.args.count c.end-of-start.result (e ∙ ap (λ k. ends s k c.args.count) (sym r)) c.copy-from-slice.ensures.after (omega arith) (omega arith) c.requires.line in
+    let w = stored s c.args.line.now c.copy_from_slice.new.self c.args.limit c.args.count c.end_of-start.result (e ∙ ap (λ k. ends s k c.args.count) (sym r)) c.copy_from_slice.ensures.after (omega arith) (omega arith) c.requires.line in
     record {
       answer = sym (and_from (ltb (length (indexed_lines c.args.limit s c.args.count)) c.args.limit) _ (lt-ltb (length (indexed_lines c.args.limit s c.args.count)) c.args.limit (omega arith)) (le-leb (total (indexed_lines c.args.limit s c.args.count) + length c.args.line.now) c.args.bytes (omega arith)));
       taken = λ _. w.taken;

@@ -14,7 +14,7 @@ size_is s n i p k z h e f =
 pub returns-then-line-len : goal.returns-then-line-len
 returns-then-line-len c =
     let s : List ℕ = c.args.sheet.now in
-    let u = size_is s c.args.-count c.args.number c.stop-of-start.result c.scan-len.result c.requires.from c.requires.to c.stop-of-start.ensures.is c.scan-len.ensures in
+    let u = size_is s c.args.-count c.args.number c.stop_of-start.result c.scan-len.result c.requires.from c.requires.to c.stop_of-start.ensures.is c.scan-len.ensures in
     record {
       answer = sym (ne_eqb _ _ (λ e. c.if-line-len.true (e ∙ u)));
       taken = λ e. absurd (false≢true e);
@@ -25,8 +25,8 @@ returns-then-line-len c =
 pub returns-then-len-eq0 : goal.returns-then-len-eq0
 returns-then-len-eq0 c =
     let s : List ℕ = c.args.sheet.now in
-    let e = c.stop-of-start.ensures.is in
-    let u = size_is s c.args.-count c.args.number c.stop-of-start.result c.scan-len.result c.requires.from c.requires.to e c.scan-len.ensures in
+    let e = c.stop_of-start.ensures.is in
+    let u = size_is s c.args.-count c.args.number c.stop_of-start.result c.scan-len.result c.requires.from c.requires.to e c.scan-len.ensures in
     record {
       answer = sym (eq-eqb (length c.args.line.now) (length (line_of (packed_lines s c.args.-count) c.args.number)) (omega arith));
       taken = λ _. unchanged s c.args.line.now c.args.-count (c.args.number - 1) (omega arith) (omega arith) (sym (ap (reach s) e) ∙ sym c.scan-len.ensures ∙ c.if-len-eq0.true);
@@ -34,15 +34,15 @@ returns-then-len-eq0 c =
       kept = λ e. absurd (true≢false e);
     }
 
-pub slice-bounds-part-end : goal.slice-bounds-part-end
-slice-bounds-part-end c = let h = reach_le c.args.sheet.now c.stop-of-start.result in let e = c.scan-len.ensures in omega arith
+pub slice_bounds-part-end : goal.slice_bounds-part-end
+slice_bounds-part-end c = let h = reach_le c.args.sheet.now c.stop_of-start.result in let e = c.scan-len.ensures in omega arith
 
 pub returns : goal.returns
 returns c =
     let s : List ℕ = c.args.sheet.now in
-    let e = c.stop-of-start.ensures.is in
-    let u = size_is s c.args.-count c.args.number c.stop-of-start.result c.scan-len.result c.requires.from c.requires.to e c.scan-len.ensures in
-    let w = changed s c.args.line.now c.copy-from-slice.new.self c.args.-count (c.args.number - 1) c.stop-of-start.result c.scan-len.result e c.scan-len.ensures c.copy-from-slice.ensures.after (omega arith) (omega arith) (omega arith) c.requires.line in
+    let e = c.stop_of-start.ensures.is in
+    let u = size_is s c.args.-count c.args.number c.stop_of-start.result c.scan-len.result c.requires.from c.requires.to e c.scan-len.ensures in
+    let w = changed s c.args.line.now c.copy_from_slice.new.self c.args.-count (c.args.number - 1) c.stop_of-start.result c.scan-len.result e c.scan-len.ensures c.copy_from_slice.ensures.after (omega arith) (omega arith) (omega arith) c.requires.line in
     record {
       answer = sym (eq-eqb (length c.args.line.now) (length (line_of (packed_lines s c.args.-count) c.args.number)) (omega arith));
       taken = λ _. w.taken;

@@ -19,11 +19,11 @@ returns-then-number-eq0 c =
       bytes = sym (ap (λ k. left k (fronted (line_of ls c.args.number) buf) buf) q);
     }
 
-pub overflow-add-end : goal.overflow-add-end
-overflow-add-end c = let h = reach_short c.args.sheet.now c.stop-of-start.result in let e = c.scan-len.ensures in omega arith
+pub overflow_add-end : goal.overflow_add-end
+overflow_add-end c = let h = reach_short c.args.sheet.now c.stop_of-start.result in let e = c.scan-len.ensures in omega arith
 
-pub slice-bounds-put-line-end : goal.slice-bounds-put-line-end
-slice-bounds-put-line-end c = let h = reach_le c.args.sheet.now c.stop-of-start.result in let e = c.scan-len.ensures in omega arith
+pub slice_bounds-put_line-end : goal.slice_bounds-put_line-end
+slice_bounds-put_line-end c = let h = reach_le c.args.sheet.now c.stop_of-start.result in let e = c.scan-len.ensures in omega arith
 
 pub returns : goal.returns
 returns c =
@@ -34,8 +34,8 @@ returns c =
     let n = packed_counted s c.args.count in
     let one : 1 ≤ i = omega arith in
     let q = read_some ls i (length buf) one (omega arith) in
-    let l : _ ≡ line_of ls i = line_part s (i - 1) c.stop-of-start.result c.scan-len.result c.min-from.result c.stop-of-start.ensures.is c.scan-len.ensures c.min-from.ensures ∙ sym (get_or-firsts (λ j. packed_line s j) c.args.count (i - 1) (omega arith)) in
+    let l : _ ≡ line_of ls i = line_part s (i - 1) c.stop_of-start.result c.scan-len.result c.min-from.result c.stop_of-start.ensures.is c.scan-len.ensures c.min-from.ensures ∙ sym (get_or-firsts (λ j. packed_line s j) c.args.count (i - 1) (omega arith)) in
     record {
-      answer = c.put-line.ensures.answer ∙ ap (λ x. verdict (put_refusal (length x) (length buf)) (length x)) l ∙ sym (ap (λ k. verdict k (length (line_of ls i))) q);
-      bytes = c.put-line.ensures.bytes ∙ ap (λ x. left (put_refusal (length x) (length buf)) (fronted x buf) buf) l ∙ sym (ap (λ k. left k (fronted (line_of ls i) buf) buf) q);
+      answer = c.put_line.ensures.answer ∙ ap (λ x. verdict (put_refusal (length x) (length buf)) (length x)) l ∙ sym (ap (λ k. verdict k (length (line_of ls i))) q);
+      bytes = c.put_line.ensures.bytes ∙ ap (λ x. left (put_refusal (length x) (length buf)) (fronted x buf) buf) l ∙ sym (ap (λ k. left k (fronted (line_of ls i) buf) buf) q);
     }

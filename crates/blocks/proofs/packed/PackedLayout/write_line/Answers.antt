@@ -21,7 +21,7 @@ pub returns-then-start-count : goal.returns-then-start-count
 returns-then-start-count c =
     let s : List ℕ = c.args.sheet.now in
     let u = total_packed s c.args.count in
-    let e = c.stop-of-start.ensures.is in
+    let e = c.stop_of-start.ensures.is in
     record {
       answer = sym (and_right (ltb (length (packed_lines s c.args.count)) c.args.limit) _ (lt-leb (total (packed_lines s c.args.count) + length c.args.line.now) c.args.bytes (omega arith)));
       taken = λ e. absurd (false≢true e);
@@ -33,9 +33,9 @@ pub returns : goal.returns
 returns c =
     let s : List ℕ = c.args.sheet.now in
     let u = total_packed s c.args.count in
-    let e = c.stop-of-start.ensures.is in
+    let e = c.stop_of-start.ensures.is in
     let k = packed_counted s c.args.count in
-    let w = stored s c.args.line.now c.copy-from-slice.new.self c.args.count c.stop-of-start.result e c.copy-from-slice.ensures.after (omega arith) c.requires.line in
+    let w = stored s c.args.line.now c.copy_from_slice.new.self c.args.count c.stop_of-start.result e c.copy_from_slice.ensures.after (omega arith) c.requires.line in
     record {
       answer = sym (and_from (ltb (length (packed_lines s c.args.count)) c.args.limit) _ (lt-ltb (length (packed_lines s c.args.count)) c.args.limit (omega arith)) (le-leb (total (packed_lines s c.args.count) + length c.args.line.now) c.args.bytes (omega arith)));
       taken = λ _. w.taken;

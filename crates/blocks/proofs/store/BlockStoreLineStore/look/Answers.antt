@@ -11,8 +11,8 @@ returns g c =
     let m = c.args.self.now.at in
     let n : ℕ = c.args.n in
     let buf : List ℕ = c.args.buf.now in
-    let e = sym (draft_part g.L.Layout.lines g.L.Layout.size b m (sym c.if-not-stands.ensures) c.size-size.result c.size-size.ensures.is c.base-of-base.result c.base-of-base.ensures (not-false m.drafted c.if-not-marks.false)) in
+    let e = sym (draft_part g.L.Layout.lines g.L.Layout.size b m (sym c.if-not-stands.ensures) c.size-size.result c.size-size.ensures.is c.base_of-base.result c.base_of-base.ensures (not-false m.drafted c.if-not-marks.false)) in
     record {
-      answer = c.read-line.ensures.answer ∙ ap (λ d. verdict (look_refusal d n (length buf)) (length (line_of (draft_lines d) n))) e;
-      bytes = c.read-line.ensures.bytes ∙ ap (λ d. left (look_refusal d n (length buf)) (fronted (line_of (draft_lines d) n) buf) buf) e;
+      answer = c.read_line.ensures.answer ∙ ap (λ d. verdict (look_refusal d n (length buf)) (length (line_of (draft_lines d) n))) e;
+      bytes = c.read_line.ensures.bytes ∙ ap (λ d. left (look_refusal d n (length buf)) (fronted (line_of (draft_lines d) n) buf) buf) e;
     }

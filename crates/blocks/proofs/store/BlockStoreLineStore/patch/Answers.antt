@@ -17,7 +17,7 @@ returns-then-n-eq0 g c =
     let size : Size = g.L.Layout.size in
     let is = draft_at lines size b m (sym c.if-not-stands.ensures) (size_of size m) refl (not-false m.drafted c.if-not-marks.false) in
     let k : length (lines m.lines (sheet_of (size_of size m) b (not m.second)) m.draft) ≡ m.draft = g.L.Layout.counted _ _ _ in
-    let q = patch_none is l (sym c.if-not-is-line.ensures) c.args.n (⊎_elim (λ z. inl z) (λ z. let h = z.1 in inr (omega arith)) c.then-n-eq0.either) in
+    let q = patch_none is l (sym c.if-not-is_line.ensures) c.args.n (⊎_elim (λ z. inl z) (λ z. let h = z.1 in inr (omega arith)) c.then-n-eq0.either) in
     let w = leaves_all g.L.Layout.laid lines size b m b _ _ (set (draft_lines (draft_of lines size b m)) (c.args.n - 1) l) refl q in
     record {
       answer = ap Err c.plain-then-n-eq0.ensures ∙ sym (ap (λ k. verdict k tt) q);
@@ -37,11 +37,11 @@ returns-then-not-taken g c =
     let lines : Meaning = g.L.Layout.lines in
     let size : Size = g.L.Layout.size in
     let k : ℕ = c.size-size.result in
-    let a : ℕ = c.base-of-base.result in
-    let is = draft_part lines size b m (sym c.if-not-stands.ensures) k c.size-size.ensures.is a c.base-of-base.ensures (not-false m.drafted c.if-not-marks.false) in
+    let a : ℕ = c.base_of-base.result in
+    let is = draft_part lines size b m (sym c.if-not-stands.ensures) k c.size-size.ensures.is a c.base_of-base.ensures (not-false m.drafted c.if-not-marks.false) in
     let n : length (lines m.lines (part b k a) m.draft) ≡ m.draft = g.L.Layout.counted _ _ _ in
     let told = c.if-not-taken.ensures in
-    let q = patch_is is l (sym c.if-not-is-line.ensures) c.args.n (omega arith) (omega arith) _ told.answer in
+    let q = patch_is is l (sym c.if-not-is_line.ensures) c.args.n (omega arith) (omega arith) _ told.answer in
     let w = leaves_all g.L.Layout.laid lines size b m _ _ _ (set (draft_lines (draft_of lines size b m)) (c.args.n - 1) l) (ap (after b k a) (told.kept refl) ∙ put_back b k a) q in
     record {
       answer = ap Err c.plain-then-not-taken.ensures ∙ sym (ap (λ k. verdict k tt) q);
@@ -62,17 +62,17 @@ returns g c =
     let size : Size = g.L.Layout.size in
     let k : ℕ = c.size-size.result in
     let ks = c.size-size.ensures.is in
-    let a : ℕ = c.base-of-base.result in
-    let e = c.base-of-base.ensures in
-    let y : List ℕ = c.change-line-taken.new.sheet in
+    let a : ℕ = c.base_of-base.result in
+    let e = c.base_of-base.ensures in
+    let y : List ℕ = c.change_line-taken.new.sheet in
     let r = sym c.if-not-stands.ensures in
     let o = not-false m.drafted c.if-not-marks.false in
     let is = draft_part lines size b m r k ks a e o in
     let n : length (lines m.lines (part b k a) m.draft) ≡ m.draft = g.L.Layout.counted _ _ _ in
     let told = c.if-not-taken.ensures in
-    let q = patch_is is l (sym c.if-not-is-line.ensures) c.args.n (omega arith) (omega arith) _ told.answer in
+    let q = patch_is is l (sym c.if-not-is_line.ensures) c.args.n (omega arith) (omega arith) _ told.answer in
     let turned : lines m.lines y m.draft ≡ set (draft_lines (draft_of lines size b m)) (c.args.n - 1) l = told.taken refl ∙ ap (λ d. set d (c.args.n - 1) l) (sym (ap draft_lines is)) in
-    let w = leaves-changed g.L.Layout.laid lines size b m r k ks a e o y c.change-line-taken.auto.sheet m.draft (standing size b m r).drafts _ (set (draft_lines (draft_of lines size b m)) (c.args.n - 1) l) q turned (told.layout refl) m.drafted o in
+    let w = leaves-changed g.L.Layout.laid lines size b m r k ks a e o y c.change_line-taken.auto.sheet m.draft (standing size b m r).drafts _ (set (draft_lines (draft_of lines size b m)) (c.args.n - 1) l) q turned (told.layout refl) m.drafted o in
     record {
       answer = sym (ap (λ k. verdict k tt) q);
       draft = w.draft;

@@ -12,7 +12,7 @@ returns g c =
     let D = g.S.LineStore.draft b in
     let lim = g.S.LineStore.limits b in
     let l = c.args.line.now in
-    let yes = sym c.if-not-is-open.ensures in
+    let yes = sym c.if-not-is_open.ensures in
     let e = c.add.ensures in
     let q = add_below D yes lim l in
     record {

@@ -11,7 +11,7 @@ returns g c =
     let n = c.args.n in
     let buf = c.args.buf.now in
     let one : 1 ≤ n = omega arith in
-    let yes = sym c.if-not-is-open.ensures in
+    let yes = sym c.if-not-is_open.ensures in
     let q = look_below D yes n (length buf) one in
     let l = look_line D yes n one in
     record {

@@ -15,8 +15,8 @@ open-requires g c =
     let w = place-within c.key-key.result ss in
     record { within = omega arith; room = omega arith }
 
-pub invariant-of-self : goal.invariant-of-self
-invariant-of-self g c =
+pub invariant_of-self : goal.invariant_of-self
+invariant_of-self g c =
     let q = c.args.self.now in
     let ss = take q.len q.row.all.now in
     let s : Slot g.row.E.Denot = record { key = c.key-key.result; element = c.args.element } in

@@ -6,35 +6,35 @@ use Rattle.queue.proofs.Front.{front_length}
 use Rattle.queue.proofs.Placed.{under_none, under_at, without_none, without_at, rises_without}
 use Rattle.queue.proofs.held.Queue.remove.Goals as goal
 
-pub returns-in-err-at : goal.returns-in-err-at
-returns-in-err-at g c =
+pub returns-in_err-at : goal.returns-in_err-at
+returns-in_err-at g c =
     let q = c.args.self.now in
     let ss = take q.len q.row.all.now in
-    let free = c.in-err-at.ensures in
+    let free = c.in_err-at.ensures in
     record {
-      answer = c.from-residual.ensures ∙ sym (under_none c.args.key ss free);
+      answer = c.from_residual.ensures ∙ sym (under_none c.args.key ss free);
       after = sym (without_none c.args.key ss free);
       room = refl {a = length q.row.all.now};
     }
 
-pub invariant-of-self : goal.invariant-of-self
-invariant-of-self g c =
+pub invariant_of-self : goal.invariant_of-self
+invariant_of-self g c =
     let q = c.args.self.now in
     let n = front_length q.row.all.now q.len q.fits in
-    let f = c.in-ok-at.ensures in
+    let f = c.in_ok-at.ensures in
     let ss = take q.len q.row.all.now in
     let R : List (Slot g.row.E.Denot) → Type 0 = λ ts. Rising (keys ts) in
-    let left : take (q.len - 1) c.close.new.self.all.now ≡ remove ss c.in-ok-at.at = c.close.ensures.front in
-    (omega (arith, c.close.ensures.room), (subst R (sym left) (rises_without ss c.in-ok-at.at f.0 q.rising), tt))
+    let left : take (q.len - 1) c.close.new.self.all.now ≡ remove ss c.in_ok-at.at = c.close.ensures.front in
+    (omega (arith, c.close.ensures.room), (subst R (sym left) (rises_without ss c.in_ok-at.at f.0 q.rising), tt))
 
 pub returns : goal.returns
 returns g c =
     let q = c.args.self.now in
     let ss = take q.len q.row.all.now in
-    let at = c.in-ok-at.at in
-    let f = c.in-ok-at.ensures in
-    let d : Slot g.row.E.Denot = record { key = 0; element = c.element-at-element.result } in
-    let is : c.element-at-element.result ≡ (get_or ss at d).element = c.element-at-element.ensures d in
+    let at = c.in_ok-at.at in
+    let f = c.in_ok-at.ensures in
+    let d : Slot g.row.E.Denot = record { key = 0; element = c.element_at-element.result } in
+    let is : c.element_at-element.result ≡ (get_or ss at d).element = c.element_at-element.ensures d in
     let found : under c.args.key ss ≡ Some (get_or ss at d).element = under_at c.args.key ss at d q.rising f.0 f.1 in
     let left : take (q.len - 1) c.close.new.self.all.now ≡ remove ss at = c.close.ensures.front in
     let gone : without c.args.key ss ≡ remove ss at = without_at c.args.key ss at q.rising f.0 f.1 in
