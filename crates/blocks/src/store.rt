@@ -48,9 +48,9 @@ impl<'a, L: Layout> BlockStore<'a, L> {
 
     // A store with no lines, no draft and health 0; where `check` refuses, its limits are 0.
     pub fn new(block: &'a mut [u8], lines: usize, bytes: usize) -> BlockStore<'a, L>
-        ensures begins { Begins (store_list L.Layout result) (store_draft L.Layout result) (store_health result) }
-        ensures limits { store_limits L.Layout result ≡ (if fits L.Layout.size lines bytes (length block.old) then lines, bytes else 0, 0) }
-        ensures layout { StoreLaid L.Layout result }
+        ensures begins { Begins (store_list L.Layout.own result) (store_draft L.Layout.own result) (store_health result) }
+        ensures limits { store_limits L.Layout.own result ≡ (if fits L.Layout.size lines bytes (length block.old) then (lines, bytes) else (0, 0)) }
+        ensures layout { StoreLaid L.Layout.own result }
     {
         let at = Marks::new(lines, bytes);
         let layout = L::default();
@@ -67,7 +67,7 @@ impl<'a, L: Layout> BlockStore<'a, L> {
 }
 
 impl<'a, L: Layout> LineSource for BlockStore<'a, L> {
-    ghost lines = { λ s. store_list L.Layout s };
+    ghost lines = { λ s. store_list L.Layout.own s };
 
     ghost health = { λ s. store_health s };
 
@@ -95,9 +95,9 @@ impl<'a, L: Layout> LineSource for BlockStore<'a, L> {
 }
 
 impl<'a, L: Layout> LineStore for BlockStore<'a, L> {
-    ghost draft = { λ s. store_draft L.Layout s };
+    ghost draft = { λ s. store_draft L.Layout.own s };
 
-    ghost limits = { λ s. store_limits L.Layout s };
+    ghost limits = { λ s. store_limits L.Layout.own s };
 
     ghost bottom = { λ _. L.Layout.kind };
 
@@ -122,13 +122,13 @@ impl<'a, L: Layout> LineStore for BlockStore<'a, L> {
     // The storing calls repeat the clauses of their trait, `bottom` among them, and add `layout`: where list and draft
     // lie in their sheets as the layout has them, they do so afterwards.
     fn begin(&mut self) -> Result<(), Fault>
-        ensures answer { result ≡ verdict (begin_refusal (store_limits L.Layout self.old)) tt }
-        ensures draft { store_draft L.Layout self.new ≡ left (begin_refusal (store_limits L.Layout self.old)) (Some []) (store_draft L.Layout self.old) }
-        ensures list { store_list L.Layout self.new ≡ store_list L.Layout self.old }
+        ensures answer { result ≡ verdict (begin_refusal (store_limits L.Layout.own self.old)) tt }
+        ensures draft { store_draft L.Layout.own self.new ≡ left (begin_refusal (store_limits L.Layout.own self.old)) (Some []) (store_draft L.Layout.own self.old) }
+        ensures list { store_list L.Layout.own self.new ≡ store_list L.Layout.own self.old }
         ensures health { store_health self.new ≡ store_health self.old }
-        ensures limits { store_limits L.Layout self.new ≡ store_limits L.Layout self.old }
+        ensures limits { store_limits L.Layout.own self.new ≡ store_limits L.Layout.own self.old }
         ensures bottom { L.Layout.kind ≡ L.Layout.kind }
-        ensures layout { StoreLaid L.Layout self.old → StoreLaid L.Layout self.new }
+        ensures layout { StoreLaid L.Layout.own self.old → StoreLaid L.Layout.own self.new }
     {
         let marks = self.at;
         if !self.stands() || marks.lines == 0 {
@@ -143,13 +143,13 @@ impl<'a, L: Layout> LineStore for BlockStore<'a, L> {
     }
 
     fn add(&mut self, line: &[u8]) -> Result<(), Fault>
-        ensures answer { result ≡ verdict (add_refusal (store_draft L.Layout self.old) (store_limits L.Layout self.old) line.now) tt }
-        ensures draft { store_draft L.Layout self.new ≡ left (add_refusal (store_draft L.Layout self.old) (store_limits L.Layout self.old) line.now) (Some (draft_lines (store_draft L.Layout self.old) ++ (line.now ∷ []))) (store_draft L.Layout self.old) }
-        ensures list { store_list L.Layout self.new ≡ store_list L.Layout self.old }
+        ensures answer { result ≡ verdict (add_refusal (store_draft L.Layout.own self.old) (store_limits L.Layout.own self.old) line.now) tt }
+        ensures draft { store_draft L.Layout.own self.new ≡ left (add_refusal (store_draft L.Layout.own self.old) (store_limits L.Layout.own self.old) line.now) (Some (draft_lines (store_draft L.Layout.own self.old) ++ (line.now ∷ []))) (store_draft L.Layout.own self.old) }
+        ensures list { store_list L.Layout.own self.new ≡ store_list L.Layout.own self.old }
         ensures health { store_health self.new ≡ store_health self.old }
-        ensures limits { store_limits L.Layout self.new ≡ store_limits L.Layout self.old }
+        ensures limits { store_limits L.Layout.own self.new ≡ store_limits L.Layout.own self.old }
         ensures bottom { L.Layout.kind ≡ L.Layout.kind }
-        ensures layout { StoreLaid L.Layout self.old → StoreLaid L.Layout self.new }
+        ensures layout { StoreLaid L.Layout.own self.old → StoreLaid L.Layout.own self.new }
     {
         let marks = self.at;
         if !self.stands() || !marks.drafted {
@@ -187,13 +187,13 @@ impl<'a, L: Layout> LineStore for BlockStore<'a, L> {
     }
 
     fn patch(&mut self, n: usize, line: &[u8]) -> Result<(), Fault>
-        ensures answer { result ≡ verdict (patch_refusal (store_draft L.Layout self.old) n line.now) tt }
-        ensures draft { store_draft L.Layout self.new ≡ left (patch_refusal (store_draft L.Layout self.old) n line.now) (Some (slice_set (draft_lines (store_draft L.Layout self.old)) (n - 1) line.now)) (store_draft L.Layout self.old) }
-        ensures list { store_list L.Layout self.new ≡ store_list L.Layout self.old }
+        ensures answer { result ≡ verdict (patch_refusal (store_draft L.Layout.own self.old) n line.now) tt }
+        ensures draft { store_draft L.Layout.own self.new ≡ left (patch_refusal (store_draft L.Layout.own self.old) n line.now) (Some (slice_set (draft_lines (store_draft L.Layout.own self.old)) (n - 1) line.now)) (store_draft L.Layout.own self.old) }
+        ensures list { store_list L.Layout.own self.new ≡ store_list L.Layout.own self.old }
         ensures health { store_health self.new ≡ store_health self.old }
-        ensures limits { store_limits L.Layout self.new ≡ store_limits L.Layout self.old }
+        ensures limits { store_limits L.Layout.own self.new ≡ store_limits L.Layout.own self.old }
         ensures bottom { L.Layout.kind ≡ L.Layout.kind }
-        ensures layout { StoreLaid L.Layout self.old → StoreLaid L.Layout self.new }
+        ensures layout { StoreLaid L.Layout.own self.old → StoreLaid L.Layout.own self.new }
     {
         let marks = self.at;
         if !self.stands() || !marks.drafted {
@@ -217,13 +217,13 @@ impl<'a, L: Layout> LineStore for BlockStore<'a, L> {
     }
 
     fn keep(&mut self) -> Result<(), Fault>
-        ensures answer { result ≡ verdict (keep_refusal (store_draft L.Layout self.old)) tt }
-        ensures draft { store_draft L.Layout self.new ≡ None }
-        ensures list { store_list L.Layout self.new ≡ left (keep_refusal (store_draft L.Layout self.old)) (draft_lines (store_draft L.Layout self.old)) (store_list L.Layout self.old) }
-        ensures health { store_health self.new ≡ left (keep_refusal (store_draft L.Layout self.old)) 0 (store_health self.old) }
-        ensures limits { store_limits L.Layout self.new ≡ store_limits L.Layout self.old }
+        ensures answer { result ≡ verdict (keep_refusal (store_draft L.Layout.own self.old)) tt }
+        ensures draft { store_draft L.Layout.own self.new ≡ None }
+        ensures list { store_list L.Layout.own self.new ≡ left (keep_refusal (store_draft L.Layout.own self.old)) (draft_lines (store_draft L.Layout.own self.old)) (store_list L.Layout.own self.old) }
+        ensures health { store_health self.new ≡ left (keep_refusal (store_draft L.Layout.own self.old)) 0 (store_health self.old) }
+        ensures limits { store_limits L.Layout.own self.new ≡ store_limits L.Layout.own self.old }
         ensures bottom { L.Layout.kind ≡ L.Layout.kind }
-        ensures layout { StoreLaid L.Layout self.old → StoreLaid L.Layout self.new }
+        ensures layout { StoreLaid L.Layout.own self.old → StoreLaid L.Layout.own self.new }
     {
         let marks = self.at;
         if !self.stands() || !marks.drafted {

@@ -50,7 +50,7 @@ pub(crate) fn begin_below<S: LineStore>(below: &mut S) -> Result<(), Fault>
     ensures health { S.LineSource.health below.new ≡ S.LineSource.health below.old }
     ensures limits { S.LineStore.limits below.new ≡ S.LineStore.limits below.old }
     ensures bottom { S.LineStore.bottom below.new ≡ S.LineStore.bottom below.old }
-    ensures below { meaning S.LineSource S.LineStore below.new ≡ left (begin_refusal (limits_above (S.LineStore.limits below.old))) (drafting (marked 0 ∷ []) (meaning S.LineSource S.LineStore below.old)) (meaning S.LineSource S.LineStore below.old) }
+    ensures below { meaning S.LineSource S.LineStore.own below.new ≡ left (begin_refusal (limits_above (S.LineStore.limits below.old))) (drafting (marked 0 ∷ []) (meaning S.LineSource S.LineStore.own below.old)) (meaning S.LineSource S.LineStore.own below.old) }
 {
     let (lines, bytes) = below.limits();
     if lines < 2 || bytes < SUM_LENGTH {
@@ -68,7 +68,7 @@ pub(crate) fn keep_below<S: LineStore>(below: &mut S) -> Result<(), Fault>
     ensures health { layer_health (S.LineSource.health below.new) (S.LineSource.lines below.new) ≡ left (keep_refusal (above (S.LineStore.draft below.old))) 0 (layer_health (S.LineSource.health below.old) (S.LineSource.lines below.old)) }
     ensures limits { S.LineStore.limits below.new ≡ S.LineStore.limits below.old }
     ensures bottom { S.LineStore.bottom below.new ≡ S.LineStore.bottom below.old }
-    ensures below { meaning S.LineSource S.LineStore below.new ≡ left (keep_refusal (above (S.LineStore.draft below.old))) (rewritten (marked (sum_of (draft_lines (above (S.LineStore.draft below.old)))) ∷ draft_lines (above (S.LineStore.draft below.old))) (meaning S.LineSource S.LineStore below.old)) (meaning S.LineSource S.LineStore below.old) }
+    ensures below { meaning S.LineSource S.LineStore.own below.new ≡ left (keep_refusal (above (S.LineStore.draft below.old))) (rewritten (marked (sum_of (draft_lines (above (S.LineStore.draft below.old)))) ∷ draft_lines (above (S.LineStore.draft below.old))) (meaning S.LineSource S.LineStore.own below.old)) (meaning S.LineSource S.LineStore.own below.old) }
 {
     if !is_open(below) {
         return Err(Fault::plain(Cause::NoDraft));

@@ -75,11 +75,11 @@ impl<S: LineSource> LineSource for Checksum<S> {
 }
 
 impl<S: LineStore> LineStore for Checksum<S> {
-    ghost draft = { λ c. layer_draft S.LineStore c };
+    ghost draft = { λ c. layer_draft S.LineStore.own c };
 
-    ghost limits = { λ c. layer_limits S.LineStore c };
+    ghost limits = { λ c. layer_limits S.LineStore.own c };
 
-    ghost bottom = { λ c. layer_bottom S.LineStore c };
+    ghost bottom = { λ c. layer_bottom S.LineStore.own c };
 
     ghost lawful_draft = { λ c. above_lawful (S.LineStore.draft c.below) (S.LineStore.lawful_draft c.below) };
 
@@ -100,25 +100,25 @@ impl<S: LineStore> LineStore for Checksum<S> {
     }
 
     fn begin(&mut self) -> Result<(), Fault>
-        ensures answer { result ≡ verdict (begin_refusal (layer_limits S.LineStore self.old)) tt }
-        ensures draft { layer_draft S.LineStore self.new ≡ left (begin_refusal (layer_limits S.LineStore self.old)) (Some []) (layer_draft S.LineStore self.old) }
+        ensures answer { result ≡ verdict (begin_refusal (layer_limits S.LineStore.own self.old)) tt }
+        ensures draft { layer_draft S.LineStore.own self.new ≡ left (begin_refusal (layer_limits S.LineStore.own self.old)) (Some []) (layer_draft S.LineStore.own self.old) }
         ensures list { layer_lines S.LineSource self.new ≡ layer_lines S.LineSource self.old }
         ensures health { layer_health_of S.LineSource self.new ≡ layer_health_of S.LineSource self.old }
-        ensures limits { layer_limits S.LineStore self.new ≡ layer_limits S.LineStore self.old }
-        ensures bottom { layer_bottom S.LineStore self.new ≡ layer_bottom S.LineStore self.old }
-        ensures below { below_of S.LineSource S.LineStore self.new ≡ left (begin_refusal (layer_limits S.LineStore self.old)) (drafting (marked 0 ∷ []) (below_of S.LineSource S.LineStore self.old)) (below_of S.LineSource S.LineStore self.old) }
+        ensures limits { layer_limits S.LineStore.own self.new ≡ layer_limits S.LineStore.own self.old }
+        ensures bottom { layer_bottom S.LineStore.own self.new ≡ layer_bottom S.LineStore.own self.old }
+        ensures below { below_of S.LineSource S.LineStore.own self.new ≡ left (begin_refusal (layer_limits S.LineStore.own self.old)) (drafting (marked 0 ∷ []) (below_of S.LineSource S.LineStore.own self.old)) (below_of S.LineSource S.LineStore.own self.old) }
     {
         begin_below(&mut self.below)
     }
 
     fn add(&mut self, line: &[u8]) -> Result<(), Fault>
-        ensures answer { result ≡ verdict (add_refusal (layer_draft S.LineStore self.old) (layer_limits S.LineStore self.old) line.now) tt }
-        ensures draft { layer_draft S.LineStore self.new ≡ left (add_refusal (layer_draft S.LineStore self.old) (layer_limits S.LineStore self.old) line.now) (Some (draft_lines (layer_draft S.LineStore self.old) ++ (line.now ∷ []))) (layer_draft S.LineStore self.old) }
+        ensures answer { result ≡ verdict (add_refusal (layer_draft S.LineStore.own self.old) (layer_limits S.LineStore.own self.old) line.now) tt }
+        ensures draft { layer_draft S.LineStore.own self.new ≡ left (add_refusal (layer_draft S.LineStore.own self.old) (layer_limits S.LineStore.own self.old) line.now) (Some (draft_lines (layer_draft S.LineStore.own self.old) ++ (line.now ∷ []))) (layer_draft S.LineStore.own self.old) }
         ensures list { layer_lines S.LineSource self.new ≡ layer_lines S.LineSource self.old }
         ensures health { layer_health_of S.LineSource self.new ≡ layer_health_of S.LineSource self.old }
-        ensures limits { layer_limits S.LineStore self.new ≡ layer_limits S.LineStore self.old }
-        ensures bottom { layer_bottom S.LineStore self.new ≡ layer_bottom S.LineStore self.old }
-        ensures below { below_of S.LineSource S.LineStore self.new ≡ left (add_refusal (layer_draft S.LineStore self.old) (layer_limits S.LineStore self.old) line.now) (drafting (draft_lines (below_of S.LineSource S.LineStore self.old).draft ++ (line.now ∷ [])) (below_of S.LineSource S.LineStore self.old)) (below_of S.LineSource S.LineStore self.old) }
+        ensures limits { layer_limits S.LineStore.own self.new ≡ layer_limits S.LineStore.own self.old }
+        ensures bottom { layer_bottom S.LineStore.own self.new ≡ layer_bottom S.LineStore.own self.old }
+        ensures below { below_of S.LineSource S.LineStore.own self.new ≡ left (add_refusal (layer_draft S.LineStore.own self.old) (layer_limits S.LineStore.own self.old) line.now) (drafting (draft_lines (below_of S.LineSource S.LineStore.own self.old).draft ++ (line.now ∷ [])) (below_of S.LineSource S.LineStore.own self.old)) (below_of S.LineSource S.LineStore.own self.old) }
     {
         if !is_open(&self.below) {
             return Err(Fault::plain(Cause::NoDraft));
@@ -137,13 +137,13 @@ impl<S: LineStore> LineStore for Checksum<S> {
     }
 
     fn patch(&mut self, n: usize, line: &[u8]) -> Result<(), Fault>
-        ensures answer { result ≡ verdict (patch_refusal (layer_draft S.LineStore self.old) n line.now) tt }
-        ensures draft { layer_draft S.LineStore self.new ≡ left (patch_refusal (layer_draft S.LineStore self.old) n line.now) (Some (slice_set (draft_lines (layer_draft S.LineStore self.old)) (n - 1) line.now)) (layer_draft S.LineStore self.old) }
+        ensures answer { result ≡ verdict (patch_refusal (layer_draft S.LineStore.own self.old) n line.now) tt }
+        ensures draft { layer_draft S.LineStore.own self.new ≡ left (patch_refusal (layer_draft S.LineStore.own self.old) n line.now) (Some (slice_set (draft_lines (layer_draft S.LineStore.own self.old)) (n - 1) line.now)) (layer_draft S.LineStore.own self.old) }
         ensures list { layer_lines S.LineSource self.new ≡ layer_lines S.LineSource self.old }
         ensures health { layer_health_of S.LineSource self.new ≡ layer_health_of S.LineSource self.old }
-        ensures limits { layer_limits S.LineStore self.new ≡ layer_limits S.LineStore self.old }
-        ensures bottom { layer_bottom S.LineStore self.new ≡ layer_bottom S.LineStore self.old }
-        ensures below { below_of S.LineSource S.LineStore self.new ≡ left (patch_refusal (layer_draft S.LineStore self.old) n line.now) (drafting (slice_set (draft_lines (below_of S.LineSource S.LineStore self.old).draft) n line.now) (below_of S.LineSource S.LineStore self.old)) (below_of S.LineSource S.LineStore self.old) }
+        ensures limits { layer_limits S.LineStore.own self.new ≡ layer_limits S.LineStore.own self.old }
+        ensures bottom { layer_bottom S.LineStore.own self.new ≡ layer_bottom S.LineStore.own self.old }
+        ensures below { below_of S.LineSource S.LineStore.own self.new ≡ left (patch_refusal (layer_draft S.LineStore.own self.old) n line.now) (drafting (slice_set (draft_lines (below_of S.LineSource S.LineStore.own self.old).draft) n line.now) (below_of S.LineSource S.LineStore.own self.old)) (below_of S.LineSource S.LineStore.own self.old) }
     {
         if !is_open(&self.below) {
             return Err(Fault::plain(Cause::NoDraft));
@@ -158,13 +158,13 @@ impl<S: LineStore> LineStore for Checksum<S> {
     }
 
     fn keep(&mut self) -> Result<(), Fault>
-        ensures answer { result ≡ verdict (keep_refusal (layer_draft S.LineStore self.old)) tt }
-        ensures draft { layer_draft S.LineStore self.new ≡ None }
-        ensures list { layer_lines S.LineSource self.new ≡ left (keep_refusal (layer_draft S.LineStore self.old)) (draft_lines (layer_draft S.LineStore self.old)) (layer_lines S.LineSource self.old) }
-        ensures health { layer_health_of S.LineSource self.new ≡ left (keep_refusal (layer_draft S.LineStore self.old)) 0 (layer_health_of S.LineSource self.old) }
-        ensures limits { layer_limits S.LineStore self.new ≡ layer_limits S.LineStore self.old }
-        ensures bottom { layer_bottom S.LineStore self.new ≡ layer_bottom S.LineStore self.old }
-        ensures below { below_of S.LineSource S.LineStore self.new ≡ left (keep_refusal (layer_draft S.LineStore self.old)) (rewritten (marked (sum_of (draft_lines (layer_draft S.LineStore self.old))) ∷ draft_lines (layer_draft S.LineStore self.old)) (below_of S.LineSource S.LineStore self.old)) (below_of S.LineSource S.LineStore self.old) }
+        ensures answer { result ≡ verdict (keep_refusal (layer_draft S.LineStore.own self.old)) tt }
+        ensures draft { layer_draft S.LineStore.own self.new ≡ None }
+        ensures list { layer_lines S.LineSource self.new ≡ left (keep_refusal (layer_draft S.LineStore.own self.old)) (draft_lines (layer_draft S.LineStore.own self.old)) (layer_lines S.LineSource self.old) }
+        ensures health { layer_health_of S.LineSource self.new ≡ left (keep_refusal (layer_draft S.LineStore.own self.old)) 0 (layer_health_of S.LineSource self.old) }
+        ensures limits { layer_limits S.LineStore.own self.new ≡ layer_limits S.LineStore.own self.old }
+        ensures bottom { layer_bottom S.LineStore.own self.new ≡ layer_bottom S.LineStore.own self.old }
+        ensures below { below_of S.LineSource S.LineStore.own self.new ≡ left (keep_refusal (layer_draft S.LineStore.own self.old)) (rewritten (marked (sum_of (draft_lines (layer_draft S.LineStore.own self.old))) ∷ draft_lines (layer_draft S.LineStore.own self.old)) (below_of S.LineSource S.LineStore.own self.old)) (below_of S.LineSource S.LineStore.own self.old) }
     {
         keep_below(&mut self.below)
     }

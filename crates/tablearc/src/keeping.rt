@@ -15,8 +15,8 @@ use whole::stored::store_whole;
 
 // Stores a table in a store, reads it back and compares it line for line. Nothing ever differs.
 pub fn keep_table<S: LineSource, D: LineStore>(table: &S, store: &mut D) -> Result<Kept, Fault>
-    ensures answer { result ≡ verdict (whole_refusal (S.LineSource.health table.now) (S.LineSource.lines table.now) (meaning D.LineSource D.LineStore store.old)) (kept_as (S.LineSource.lines table.now) (D.LineStore.limits store.old)) }
-    ensures store { meaning D.LineSource D.LineStore store.new ≡ left (whole_refusal (S.LineSource.health table.now) (S.LineSource.lines table.now) (meaning D.LineSource D.LineStore store.old)) (rewritten (S.LineSource.lines table.now) (meaning D.LineSource D.LineStore store.old)) (meaning D.LineSource D.LineStore store.old) }
+    ensures answer { result ≡ verdict (whole_refusal (S.LineSource.health table.now) (S.LineSource.lines table.now) (meaning D.LineSource D.LineStore.own store.old)) (kept_as (S.LineSource.lines table.now) (D.LineStore.limits store.old)) }
+    ensures store { meaning D.LineSource D.LineStore.own store.new ≡ left (whole_refusal (S.LineSource.health table.now) (S.LineSource.lines table.now) (meaning D.LineSource D.LineStore.own store.old)) (rewritten (S.LineSource.lines table.now) (meaning D.LineSource D.LineStore.own store.old)) (meaning D.LineSource D.LineStore.own store.old) }
 {
     store_whole(table, store)?;
     let lines = store.count();

@@ -12,8 +12,8 @@ use lines::store::LineStore;
 // Makes the lines of a source the list of a store, whatever that was before: a draft begun, every line added in order,
 // and kept. A source that is not whole, or that has no room, is refused before the draft is begun.
 pub fn store_whole<S: LineSource, D: LineStore>(source: &S, store: &mut D) -> Result<(), Fault>
-    ensures answer { result ≡ verdict (whole_refusal (S.LineSource.health source.now) (S.LineSource.lines source.now) (meaning D.LineSource D.LineStore store.old)) tt }
-    ensures store { meaning D.LineSource D.LineStore store.new ≡ left (whole_refusal (S.LineSource.health source.now) (S.LineSource.lines source.now) (meaning D.LineSource D.LineStore store.old)) (rewritten (S.LineSource.lines source.now) (meaning D.LineSource D.LineStore store.old)) (meaning D.LineSource D.LineStore store.old) }
+    ensures answer { result ≡ verdict (whole_refusal (S.LineSource.health source.now) (S.LineSource.lines source.now) (meaning D.LineSource D.LineStore.own store.old)) tt }
+    ensures store { meaning D.LineSource D.LineStore.own store.new ≡ left (whole_refusal (S.LineSource.health source.now) (S.LineSource.lines source.now) (meaning D.LineSource D.LineStore.own store.old)) (rewritten (S.LineSource.lines source.now) (meaning D.LineSource D.LineStore.own store.old)) (meaning D.LineSource D.LineStore.own store.old) }
 {
     let health = source.health();
     if health != 0 {
@@ -32,7 +32,7 @@ fn add_all<S: LineSource, D: LineStore>(source: &S, store: &mut D) -> Result<(),
     requires begun { D.LineStore.draft store.old ≡ Some [] }
     requires room { fits (D.LineStore.limits store.old) (S.LineSource.lines source.now) ≡ true }
     ensures answer { result ≡ Ok tt }
-    ensures store { meaning D.LineSource D.LineStore store.new ≡ drafting (S.LineSource.lines source.now) (meaning D.LineSource D.LineStore store.old) }
+    ensures store { meaning D.LineSource D.LineStore.own store.new ≡ drafting (S.LineSource.lines source.now) (meaning D.LineSource D.LineStore.own store.old) }
 {
     let mut buf = [0u8; LONGEST];
     let count = source.count();

@@ -17,7 +17,7 @@ size_is s limit n i p k z h e f =
 pub returns-then-line-len : goal.returns-then-line-len
 returns-then-line-len c =
     let s : List ℕ = c.args.sheet.now in
-    let u = size_is s c.args.limit c.args.-count c.args.number c.end_of-start.result c.span_at-len.result c.requires.from c.requires.to c.end_of-start.ensures.is c.span_at-len.ensures in
+    let u = size_is s c.args.limit c.args._count c.args.number c.end_of-start.result c.span_at-len.result c.requires.from c.requires.to c.end_of-start.ensures.is c.span_at-len.ensures in
     record {
       answer = sym (ne_eqb _ _ (λ e. c.if-line-len.true (e ∙ u)));
       taken = λ e. absurd (false≢true e);
@@ -31,8 +31,8 @@ returns c =
     let i : ℕ = c.args.number - 1 in
     let r = length-drop (4 * c.args.limit) s in
     let e = c.end_of-start.ensures.is in
-    let u = size_is s c.args.limit c.args.-count c.args.number c.end_of-start.result c.span_at-len.result c.requires.from c.requires.to e c.span_at-len.ensures in
-    let w = changed s c.args.line.now c.copy_from_slice.new.self c.args.limit c.args.-count i c.end_of-start.result c.span_at-len.result (e ∙ ap (λ z. ends s z i) (sym r)) (c.span_at-len.ensures ∙ ap (λ z. span s z i c.end_of-start.result) (sym r)) c.copy_from_slice.ensures.after (omega arith) c.requires.few (let h = c.requires.size in omega arith) (omega arith) c.requires.line in
+    let u = size_is s c.args.limit c.args._count c.args.number c.end_of-start.result c.span_at-len.result c.requires.from c.requires.to e c.span_at-len.ensures in
+    let w = changed s c.args.line.now c.copy_from_slice.new.self c.args.limit c.args._count i c.end_of-start.result c.span_at-len.result (e ∙ ap (λ z. ends s z i) (sym r)) (c.span_at-len.ensures ∙ ap (λ z. span s z i c.end_of-start.result) (sym r)) c.copy_from_slice.ensures.after (omega arith) c.requires.few (let h = c.requires.size in omega arith) (omega arith) c.requires.line in
     record {
       answer = sym (eq-eqb _ _ (omega arith));
       taken = λ _. w.taken;

@@ -14,7 +14,7 @@ size_is s n i p k z h e f =
 pub returns-then-line-len : goal.returns-then-line-len
 returns-then-line-len c =
     let s : List ℕ = c.args.sheet.now in
-    let u = size_is s c.args.-count c.args.number c.stop_of-start.result c.scan-len.result c.requires.from c.requires.to c.stop_of-start.ensures.is c.scan-len.ensures in
+    let u = size_is s c.args._count c.args.number c.stop_of-start.result c.scan-len.result c.requires.from c.requires.to c.stop_of-start.ensures.is c.scan-len.ensures in
     record {
       answer = sym (ne_eqb _ _ (λ e. c.if-line-len.true (e ∙ u)));
       taken = λ e. absurd (false≢true e);
@@ -26,10 +26,10 @@ pub returns-then-len-eq0 : goal.returns-then-len-eq0
 returns-then-len-eq0 c =
     let s : List ℕ = c.args.sheet.now in
     let e = c.stop_of-start.ensures.is in
-    let u = size_is s c.args.-count c.args.number c.stop_of-start.result c.scan-len.result c.requires.from c.requires.to e c.scan-len.ensures in
+    let u = size_is s c.args._count c.args.number c.stop_of-start.result c.scan-len.result c.requires.from c.requires.to e c.scan-len.ensures in
     record {
-      answer = sym (eq-eqb (length c.args.line.now) (length (line_of (packed_lines s c.args.-count) c.args.number)) (omega arith));
-      taken = λ _. unchanged s c.args.line.now c.args.-count (c.args.number - 1) (omega arith) (omega arith) (sym (ap (reach s) e) ∙ sym c.scan-len.ensures ∙ c.if-len-eq0.true);
+      answer = sym (eq-eqb (length c.args.line.now) (length (line_of (packed_lines s c.args._count) c.args.number)) (omega arith));
+      taken = λ _. unchanged s c.args.line.now c.args._count (c.args.number - 1) (omega arith) (omega arith) (sym (ap (reach s) e) ∙ sym c.scan-len.ensures ∙ c.if-len-eq0.true);
       layout = λ _ w. w;
       kept = λ e. absurd (true≢false e);
     }
@@ -41,10 +41,10 @@ pub returns : goal.returns
 returns c =
     let s : List ℕ = c.args.sheet.now in
     let e = c.stop_of-start.ensures.is in
-    let u = size_is s c.args.-count c.args.number c.stop_of-start.result c.scan-len.result c.requires.from c.requires.to e c.scan-len.ensures in
-    let w = changed s c.args.line.now c.copy_from_slice.new.self c.args.-count (c.args.number - 1) c.stop_of-start.result c.scan-len.result e c.scan-len.ensures c.copy_from_slice.ensures.after (omega arith) (omega arith) (omega arith) c.requires.line in
+    let u = size_is s c.args._count c.args.number c.stop_of-start.result c.scan-len.result c.requires.from c.requires.to e c.scan-len.ensures in
+    let w = changed s c.args.line.now c.copy_from_slice.new.self c.args._count (c.args.number - 1) c.stop_of-start.result c.scan-len.result e c.scan-len.ensures c.copy_from_slice.ensures.after (omega arith) (omega arith) (omega arith) c.requires.line in
     record {
-      answer = sym (eq-eqb (length c.args.line.now) (length (line_of (packed_lines s c.args.-count) c.args.number)) (omega arith));
+      answer = sym (eq-eqb (length c.args.line.now) (length (line_of (packed_lines s c.args._count) c.args.number)) (omega arith));
       taken = λ _. w.taken;
       layout = λ _. w.keeps;
       kept = λ e. absurd (true≢false e);
