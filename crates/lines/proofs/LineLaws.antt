@@ -5,7 +5,7 @@ use Rattle.std.proofs.ByRecursion.{All-get_or}
 use Rattle.std.proofs.lemmas.List.{at_drop_more, get_or_past, take_at}
 use Rattle.std.proofs.lemmas.Bool.{cases_lt, cases_eq, eq-eqb, ne_eqb, lt-ltb, le-ltb, leb-true, and_parts, or_left, or_right, or_from, cond-true, cond-false, ltb-true, not_from_true}
 use Rattle.lines.specs.declared.fault.Fault.{Fault}
-use Rattle.lines.specs.declared.fault.Cause.TheVariants.{NoSuchLine, ReadBufferShort, NotALine, NoRoom, OtherLength}
+use Rattle.lines.specs.declared.fault.Cause.TheVariants.{NoSuchLine, ReadBufferShort, NoRoom, OtherLength}
 use Rattle.lines.specs.Faults.{Refusal, accepted, plain, when, verdict, left}
 use Rattle.lines.specs.Lines.{Line, no_lf, is_line, Lawful, line_of, lacks, total, fronted, room, put_refusal, read_refusal, add_refusal, patch_refusal}
 

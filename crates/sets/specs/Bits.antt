@@ -5,7 +5,7 @@
 -- bit word n   bit n of a word is 1
 -- bits ws      the set that the words hold: serial n is bit n % 64 of word n / 64
 -- raised ws n  the words with the bit of serial n set; as they are where n lies past the last word
-use Rattle.std.specs.Prelude.{ℕ, ◌/◌, ◌%◌, ◌^◌, Bool, false, List, set, ◌==◌, bit_or, slice_index, slice_set}
+use Rattle.std.specs.Prelude.{ℕ, ◌/◌, ◌%◌, ◌^◌, Bool, false, List, ◌==◌, bit_or, slice_index, slice_set}
 
 abbrev pub Serials : Type 0
 Serials = ℕ → Bool

@@ -14,7 +14,7 @@ use lines::source::LineSource;
 use queue::Queue;
 use records::body_record::read_record;
 use sets::SerialSet;
-use whole::written::put_row;
+use whole::written::append_row;
 
 // Puts the lines that the set shows of a body without breach, each with its LF, at the front of a buffer that has room.
 pub(crate) fn write<S: LineSource>(
@@ -42,7 +42,7 @@ pub(crate) fn write<S: LineSource>(
         let line = seen_line(marks, set, next);
         follow(marks, top, next);
         if let Some(l) = line {
-            at = put_row(l, out, at)?;
+            at = append_row(l, out, at)?;
         }
     }
     Ok(())

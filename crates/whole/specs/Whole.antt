@@ -1,17 +1,25 @@
 -- Whole sources: how many bytes they have, where two differ, and a source stored as a whole. Assumes nothing.
 --
+-- row_at l at buf       the buffer with the line l and LF from the place `at` on
+-- row_refusal ..        the refusal of putting a line of length `len` and LF there, into a buffer of `space` bytes
 -- text_of ls            the lines as a text: each line's bytes, and LF
 -- text_refusal ..       the refusal of writing that text into a buffer of `space` bytes
 -- differ_from n ls ms   the number of the first line, counted from n, that the two lists do not both have alike
 -- first_difference      the same counted from 1; none exactly where the lists are equal
 -- fits lim ls           these lines pass neither limit of a store that can begin a draft
 -- whole_refusal h ls s  the refusal of making ls, the lines of a source with health h, the list of the store s
-use Rattle.std.specs.Prelude.{ℕ, ◌+◌, Bool, cond, not, ◌&&◌, List, [], ◌∷◌, ◌++◌, length, Some, None, Option, ◌==◌, nat_le, nat_lt}
+use Rattle.std.specs.Prelude.{ℕ, ◌+◌, Bool, cond, not, ◌&&◌, List, [], ◌∷◌, ◌++◌, length, take, drop, Some, None, Option, ◌==◌, nat_le, nat_lt}
 use Rattle.std.specs.Str.{bytes_eq}
 use Rattle.lines.specs.declared.fault.Cause.TheVariants.{NotWhole, BufferTooSmall, NoRoom}
 use Rattle.lines.specs.Faults.{Refusal, accepted, plain, layered, when}
 use Rattle.lines.specs.Lines.{Line, total}
 use Rattle.lines.specs.Stores.{Store}
+
+abbrev pub row_at : Line → ℕ → List ℕ → List ℕ
+row_at l at buf = take at buf ++ (l ++ (10 ∷ drop (at + length l + 1) buf))
+
+abbrev pub row_refusal : ℕ → ℕ → ℕ → Refusal
+row_refusal len at space = when (nat_le space (at + len)) (plain BufferTooSmall) accepted
 
 abbrev pub text_of : List Line → List ℕ
 text_of [] = []

@@ -2,7 +2,7 @@ ghost use Rattle.std.specs.Prelude.{◌≡◌, ◌+◌, ◌<◌, ◌∷◌, ◌+
 ghost use Rattle.lines.specs.Faults.{verdict, left};
 ghost use Rattle.lines.specs.Lines.{fronted};
 ghost use Rattle.lines.specs.Rows.{lines_in, held};
-ghost use Rattle.whole.specs.Whole.{text_of, text_refusal};
+ghost use Rattle.whole.specs.Whole.{row_at, row_refusal, text_of, text_refusal};
 
 use crate::measure::total_bytes;
 use lines::fault::{Cause, Fault};
@@ -28,6 +28,20 @@ pub fn write_text<S: LineSource>(source: &S, buf: &mut [u8]) -> Result<usize, Fa
         at += len + 1;
     }
     Ok(at)
+}
+
+// Puts a line and its LF into the buffer from `at` on, and answers the place after them.
+pub fn append_row(line: &[u8], buf: &mut [u8], at: usize) -> Result<usize, Fault>
+    ensures answer { result ≡ verdict (row_refusal (length line.now) at (length buf.old)) (at + length line.now + 1) }
+    ensures bytes { buf.new ≡ left (row_refusal (length line.now) at (length buf.old)) (row_at line.now at buf.old) buf.old }
+{
+    let space = buf.len();
+    let len = line.len();
+    if at >= space || space - at <= len {
+        return Err(Fault::plain(Cause::BufferTooSmall));
+    }
+    put_row(line, buf, at);
+    Ok(at + len + 1)
 }
 
 // Puts a line and its LF into the buffer from `at` on.

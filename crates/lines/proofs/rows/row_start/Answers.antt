@@ -1,4 +1,4 @@
-use Rattle.std.proofs.Common.{◌≡◌, ℕ, ◌+◌, ◌-◌, ◌*◌, ◌/◌, sym, ap, ◌∙◌, arith}
+use Rattle.std.proofs.Common.{◌≡◌, ◌-◌, ◌/◌, ap, ◌∙◌, arith}
 use Rattle.lines.specs.Rows.{lines_in, start_of}
 use Rattle.lines.proofs.RowLaws.{next_start, row_within}
 use Rattle.lines.proofs.rows.row_start.Goals as goal

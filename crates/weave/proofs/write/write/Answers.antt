@@ -82,14 +82,14 @@ loop-i-preserved g c =
           let sees = sym c.seen-line-line.ensures ∙ ap (option_map (λ x. x.now)) w.in-Some.is in
           let here = subst (Written all was out at) (shown_here s top ms (i + 1) ls i inside r is (Some l) sees) c.loop-i.invariant.4 in
           let q = row_fits (length l) at (length out) (next_fits here) in
-          let next = value_is w.put-row.result w.in-ok-at.at (at + length l + 1) w.in-ok-at.was (w.put-row.ensures.answer ∙ ap (λ (q : Refusal). verdict q (at + length l + 1)) q) in
-          let bytes = w.put-row.ensures.bytes ∙ ap (λ (q : Refusal). Faults.left q (row_at l at out) out) q in
-          let more = written_more all was out w.put-row.new.buf at l left here bytes in (
+          let next = value_is w.append_row.result w.in-ok-at.at (at + length l + 1) w.in-ok-at.was (w.append_row.ensures.answer ∙ ap (λ (q : Refusal). verdict q (at + length l + 1)) q) in
+          let bytes = w.append_row.ensures.bytes ∙ ap (λ (q : Refusal). Faults.left q (row_at l at out) out) q in
+          let more = written_more all was out w.append_row.new.buf at l left here bytes in (
             size,
             fits,
             c.follow.ensures.bounded,
             valid,
-            written_as w.put-row.new.buf c.match-line.out (at + length l + 1) c.match-line.at left (shown s new rest) w.out-is (w.at-is ∙ next) same more,
+            written_as w.append_row.new.buf c.match-line.out (at + length l + 1) c.match-line.at left (shown s new rest) w.out-is (w.at-is ∙ next) same more,
           )
       | in-default w ↦
           let none = sym c.seen-line-line.ensures ∙ ap (option_map (λ x. x.now)) w.in-default.is in

@@ -1,10 +1,10 @@
-use Rattle.std.proofs.Common.{◌≡◌, ℕ, ◌+◌, ◌-◌, ◌<◌, ◌≤◌, List, [], ◌∷◌, ◌++◌, length, take, drop, Ok, Err, sym, refl, ap, ◌∙◌, arith}
+use Rattle.std.proofs.Common.{◌≡◌, ℕ, ◌+◌, ◌-◌, ◌<◌, ◌≤◌, List, ◌∷◌, ◌++◌, length, take, drop, Ok, Err, sym, refl, ap, ◌∙◌, arith}
 use native.Mathlib.Nat.{sub-zero}
 use Rattle.std.proofs.lemmas.List.{take_all, length-take}
 use Rattle.std.proofs.lemmas.Bool.{lt-ltb, le-ltb}
 use Rattle.lines.specs.declared.fault.Cause.TheVariants.{BufferTooSmall}
 use Rattle.lines.specs.Faults.{accepted, plain, verdict, left}
-use Rattle.lines.specs.Lines.{Line, line_of, total, fronted}
+use Rattle.lines.specs.Lines.{Line, line_of, fronted}
 use Rattle.whole.specs.Whole.{text_of}
 use Rattle.lines.proofs.LineLaws.{check_fails, check_passes}
 use Rattle.whole.proofs.WholeLaws.{total-more, total-most, read_length}

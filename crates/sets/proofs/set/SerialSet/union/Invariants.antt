@@ -1,4 +1,4 @@
-use lib.Bits.{bit_and, bit_or, bit_xor}
+use lib.Bits.{bit_or}
 use Rattle.sets.proofs.Words.{Combined}
 use Rattle.sets.proofs.set.SerialSet.union.Given as goal
 

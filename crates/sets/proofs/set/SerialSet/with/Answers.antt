@@ -1,9 +1,8 @@
-use Rattle.std.proofs.Common.{◌≡◌, ℕ, ◌/◌, ◌%◌, ◌^◌, ◌<◌, ◌≤◌, List, length, get_or, set, sym, ap, ◌∙◌, arith}
+use Rattle.std.proofs.Common.{◌≡◌, ℕ, ◌/◌, ◌%◌, ◌^◌, List, get_or, set, sym, ap, ◌∙◌, arith}
 use native.Mathlib.Nat.{div-eq_of_lt}
 use lib.Bits.{bit_or}
 use Rattle.std.proofs.lemmas.Nat.{one_shl, mod_below}
 use Rattle.sets.specs.Bits.{bits}
-use Rattle.sets.specs.Serials.{serials}
 use Rattle.sets.specs.declared.set.SerialSet.{SerialSet}
 use Rattle.std.proofs.lemmas.List.{set_past}
 use Rattle.sets.proofs.Words.{bits_with}

@@ -1,4 +1,4 @@
-use lib.Bits.{bit_and, bit_or, bit_xor}
+use lib.Bits.{bit_and, bit_xor}
 use Rattle.sets.proofs.Words.{Combined}
 use Rattle.sets.proofs.set.SerialSet.without.Given as goal
 
