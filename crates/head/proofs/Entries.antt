@@ -10,7 +10,7 @@ use Rattle.records.specs.declared.delta_record.DeltaRecord.{DeltaRecord}
 use Rattle.records.specs.HeadRecords.{comment_record}
 use Rattle.head.specs.declared.table.Entry.{Entry}
 use Rattle.head.specs.Heads.{next, lists, excludes, comment, close, last, on_includes, on_excludes, on_last, opened, including, excluding, includes_mark, excludes_mark, end_mark, last_marks, after_entry}
-use Rattle.head.specs.Reading.{rest, demand, sheet_list, Fills, Ends}
+use Rattle.head.specs.Reading.{rest, demand, list_at, Fills, Ends}
 use Rattle.head.proofs.Walks.{demand-ok, demand-err, list-ok, list-err}
 
 -- what a `?` hands on
@@ -25,23 +25,23 @@ ends_err ls p r f q h = subst (Ends ls p) (sym q) h
 
 -- a delta record d was read, and its entry's other records begin at p
 module _ (ls : List Line) (p : ℕ) (one : 1 ≤ p) (d : DeltaRecord) where
-  pub bad_includes : (f : Fault) → sheet_list includes_mark d.serial unlisted ls p ≡ Err f → (es : List Entry) → rest ls es (lists (opened d)) p ≡ Err f
+  pub bad_includes : (f : Fault) → list_at includes_mark d.serial unlisted ls p ≡ Err f → (es : List Entry) → rest ls es (lists (opened d)) p ≡ Err f
   bad_includes f h es =
       list-err ls p one es includes_mark d.serial unlisted (lists (opened d)) (λ m. excludes (including m (opened d))) (λ l a. ap (on_includes es (opened d) l) a) (λ l r a. ap (on_includes es (opened d) l) a) f h
 
   -- the includes i, and the next record at q
-  module _ (i : SerialSet) (q : ℕ) (has_i : sheet_list includes_mark d.serial unlisted ls p ≡ Ok (i, q)) (one-q : 1 ≤ q) where
+  module _ (i : SerialSet) (q : ℕ) (has_i : list_at includes_mark d.serial unlisted ls p ≡ Ok (i, q)) (one-q : 1 ≤ q) where
     to_excludes : (es : List Entry) → rest ls es (lists (opened d)) p ≡ rest ls es (excludes (including i (opened d))) q
     to_excludes es =
         list-ok ls p one es includes_mark d.serial unlisted (lists (opened d)) (λ m. excludes (including m (opened d))) (λ l a. ap (on_includes es (opened d) l) a) (λ l r a. ap (on_includes es (opened d) l) a) i q has_i
 
-    pub bad-excludes : (f : Fault) → sheet_list excludes_mark d.serial i ls q ≡ Err f → (es : List Entry) → rest ls es (lists (opened d)) p ≡ Err f
+    pub bad-excludes : (f : Fault) → list_at excludes_mark d.serial i ls q ≡ Err f → (es : List Entry) → rest ls es (lists (opened d)) p ≡ Err f
     bad-excludes f h es =
         to_excludes es
         ∙ list-err ls q one-q es excludes_mark d.serial i (excludes (including i (opened d))) (λ m. comment (excluding m (including i (opened d)))) (λ l a. ap (on_excludes es (including i (opened d)) l) a) (λ l r a. ap (on_excludes es (including i (opened d)) l) a) f h
 
     -- the excludes x, and the next record at r
-    module _ (x : SerialSet) (r : ℕ) (has-x : sheet_list excludes_mark d.serial i ls q ≡ Ok (x, r)) (one-r : 1 ≤ r) where
+    module _ (x : SerialSet) (r : ℕ) (has-x : list_at excludes_mark d.serial i ls q ≡ Ok (x, r)) (one-r : 1 ≤ r) where
       abbrev whole-entry : Entry
       whole-entry = excluding x (including i (opened d))
 

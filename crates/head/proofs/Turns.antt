@@ -8,12 +8,12 @@ use Rattle.lines.specs.Lines.{Line}
 use Rattle.records.specs.declared.delta_record.DeltaRecord.{DeltaRecord}
 use Rattle.records.specs.HeadRecords.{counts_record}
 use Rattle.head.specs.declared.table.Entry.{Entry}
-use Rattle.head.specs.Heads.{next, counts, delta, lists, Outcome, head, opened, after_entry, sofar_in_order, answered, entries_of, sound, precedes, has_sid}
+use Rattle.head.specs.Heads.{next, counts, delta, lists, Outcome, head, opened, after_entry, in_order, answered, entries_of, sound, precedes, has_sid}
 use Rattle.head.specs.Reading.{rest, demand, delta_at, follows, sound_after, Fills}
 use Rattle.head.proofs.Walks.{demand-ok, demand-err, delta-ok, delta-bad, delta-err}
 
 -- the last of the entries has the serial `before`
-pub order_push : (es : List Entry) (e : Entry) (n : ℕ) → sofar_in_order (es ++ e ∷ []) n ≡ eqb (n + 1) e.serial
+pub order_push : (es : List Entry) (e : Entry) (n : ℕ) → in_order (es ++ e ∷ []) n ≡ eqb (n + 1) e.serial
 order_push [] e n = refl
 order_push (a ∷ []) e n = refl
 order_push (a ∷ b ∷ es) e n = order_push (b ∷ es) e n
@@ -21,7 +21,7 @@ order_push (a ∷ b ∷ es) e n = order_push (b ∷ es) e n
 pub follows_push : (s n : ℕ) → s ≤ 63 → eqb (n + 1) s ≡ follows s n
 follows_push s n h = sym (cond-false _ _ _ (ne_eqb s 64 (λ z. omega arith)))
 
-sound_is : (es : List Entry) (before : ℕ) (d : DeltaRecord) → ((n : ℕ) → sofar_in_order es n ≡ follows before n) → sound es d ≡ sound_after es before d
+sound_is : (es : List Entry) (before : ℕ) (d : DeltaRecord) → ((n : ℕ) → in_order es n ≡ follows before n) → sound es d ≡ sound_after es before d
 sound_is es before d h =
     ap (λ t. d.real && (t && (precedes d.predecessor d.serial && not (has_sid es d.sid)))) (h d.serial)
 
@@ -43,7 +43,7 @@ module _ (ls : List Line) (es : List Entry) (before p : ℕ) (one : 1 ≤ p) (so
     pub bad-delta : (f : Fault) → delta_at ls (p + 1) ≡ Err f → head ls ≡ Err f
     bad-delta f h = at_delta ∙ delta-err ls (p + 1) (omega arith) es f h
 
-    module _ (d : DeltaRecord) (said : delta_at ls (p + 1) ≡ Ok d) (order : (n : ℕ) → sofar_in_order es n ≡ follows before n) where
+    module _ (d : DeltaRecord) (said : delta_at ls (p + 1) ≡ Ok d) (order : (n : ℕ) → in_order es n ≡ follows before n) where
       pub unsound : sound_after es before d ≡ false → head ls ≡ Err (placed HeadContent (p + 1))
       unsound h = at_delta ∙ delta-bad ls (p + 1) (omega arith) es d said (sound_is es before d order ∙ h)
 

@@ -15,8 +15,8 @@ use Rattle.records.specs.HeadRecords.{after}
 use Rattle.records.specs.DeltaRecords.{delta_record}
 use Rattle.records.specs.SerialLists.{serial_list}
 use Rattle.head.specs.declared.table.Entry.{Entry}
-use Rattle.head.specs.Heads.{Turn, Step, fault, next, whole, counts, delta, lists, excludes, comment, close, last, formal, judge, proceed, walk, Outcome, on_delta, sound, opened, including, excluding, on_includes, on_excludes, on_comment, with_set, includes_mark, excludes_mark, sofar_in_order}
-use Rattle.head.specs.Reading.{rest, demand, delta_at, sheet_list, list_in, set_at}
+use Rattle.head.specs.Heads.{Turn, Step, fault, next, whole, counts, delta, lists, excludes, comment, close, last, formal, judge, proceed, walk, Outcome, on_delta, sound, opened, including, excluding, on_includes, on_excludes, on_comment, with_set, includes_mark, excludes_mark, in_order}
+use Rattle.head.specs.Reading.{rest, demand, delta_at, list_at, list_in, set_at}
 
 both : {X : Type 0} (a b : Bool) (x y : X) → cond a (cond b x y) y ≡ cond (a && b) x y
 both true b x y = refl
@@ -116,14 +116,14 @@ module _ (ls : List (List ℕ)) (p : ℕ) (one : 1 ≤ p) where
     in-err (Some r) b a f e =
         there b es turn ∙ ap (λ s. proceed s p (λ es t. rest ls es t (p + 1))) (some (line_of ls p) r a) ∙ set-err (serial_list own other r) f e
 
-    pub list-ok : (m : SerialSet) (q : ℕ) → sheet_list mark own other ls p ≡ Ok (m, q) → rest ls es turn p ≡ rest ls es (k m) q
+    pub list-ok : (m : SerialSet) (q : ℕ) → list_at mark own other ls p ≡ Ok (m, q) → rest ls es turn p ≡ rest ls es (k m) q
     list-ok m q e =
         ⊎_elim
         (λ b. in-ok (after mark (line_of ls p)) b refl m q (sym (cond-true _ _ _ b) ∙ e))
         (λ b. let w : ◌≡◌ {A = Result (SerialSet × ℕ) Fault} (Err (placed HeadForm p)) (Ok (m, q)) = sym (cond-false (leb p (length ls)) (list_in own other p (after mark (line_of ls p))) (Err (placed HeadForm p)) b) ∙ e in let z : ◌≡◌ {A = ℕ} 0 1 = cc in absurd (omega arith))
         (cases_Bool (leb p (length ls)))
 
-    pub list-err : (f : Fault) → sheet_list mark own other ls p ≡ Err f → rest ls es turn p ≡ Err f
+    pub list-err : (f : Fault) → list_at mark own other ls p ≡ Err f → rest ls es turn p ≡ Err f
     list-err f e =
         ⊎_elim
         (λ b. in-err (after mark (line_of ls p)) b refl f (sym (cond-true _ _ _ b) ∙ e))

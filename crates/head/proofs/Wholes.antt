@@ -15,7 +15,7 @@ use Rattle.records.specs.DeltaRecords.{delta_record}
 use Rattle.records.specs.SerialLists.{serial_list, numbers}
 use Rattle.records.specs.Pieces.{cut}
 use Rattle.head.specs.declared.table.Entry.{Entry}
-use Rattle.head.specs.Heads.{Turn, counts, delta, lists, excludes, comment, close, last, Step, fault, next, whole, formal, with_set, after_entry, last_marks, on_delta, on_comment, on_excludes, on_includes, on_last, judge, proceed, walk, head, Outcome, opened, including, excluding, sofar_in_order, precedes, same_sid, has_sid, sound, includes_mark, excludes_mark}
+use Rattle.head.specs.Heads.{Turn, counts, delta, lists, excludes, comment, close, last, Step, fault, next, whole, formal, with_set, after_entry, last_marks, on_delta, on_comment, on_excludes, on_includes, on_last, judge, proceed, walk, head, Outcome, opened, including, excluding, in_order, precedes, same_sid, has_sid, sound, includes_mark, excludes_mark}
 use Rattle.head.specs.Whole.{Runs, Below, Lower, Disjoint, Differ, Whole}
 use Rattle.head.proofs.Gathers.{Fits, none_had, listed_fits}
 
@@ -52,7 +52,7 @@ Next (fault c) = Unit {0}
 Next (next es t) = St es t
 Next (whole es) = Whole es
 
-runs_last : (e : Entry) (es : List Entry) (a b n : ℕ) → Runs a (e ∷ es) b → sofar_in_order (e ∷ es) n ≡ true → n ≡ b
+runs_last : (e : Entry) (es : List Entry) (a b n : ℕ) → Runs a (e ∷ es) b → in_order (e ∷ es) n ≡ true → n ≡ b
 runs_last e [] a b n r o =
     let q : n + 1 ≡ e.serial = eqb-true (n + 1) e.serial o in
     omega (arith, r.0, r.1, r.2)
@@ -123,7 +123,7 @@ includes_next es e l (Some r) s =
     (λ m q.
     ((f.0, f.1, f.2, (f.3.0, f.3.1, λ k h. (listed_fits e.serial unlisted k m (numbers (cut 32 r)) q h).0, f.3.3), f.4), s.1))
 
-sofar_in_order : (es : List Entry) (n : ℕ) → Ready es → sofar_in_order es n ≡ true → 1 ≤ n → (a : ℕ) × Sofar a es n
+sofar_in_order : (es : List Entry) (n : ℕ) → Ready es → in_order es n ≡ true → 1 ≤ n → (a : ℕ) × Sofar a es n
 sofar_in_order [] n r o one = (n, (leb-true n 63 (and_parts (leb 1 n) (leb n 63) o).1, refl, tt, tt))
 sofar_in_order (e ∷ es) n (inl q) o one = let z : ◌≡◌ {A = ℕ} 0 1 = cc in absurd (omega arith)
 sofar_in_order (e ∷ es) n (inr s) o one =
@@ -136,8 +136,8 @@ delta_next es (Some d) r = go (sound es d) refl
   where
     go : (b : Bool) → sound es d ≡ b → Next (cond b (next es (lists (opened d))) (fault HeadContent))
     go true e =
-        let p = and_parts d.real (sofar_in_order es d.serial && (precedes d.predecessor d.serial && not (has_sid es d.sid))) e in
-        let q = and_parts (sofar_in_order es d.serial) (precedes d.predecessor d.serial && not (has_sid es d.sid)) p.1 in
+        let p = and_parts d.real (in_order es d.serial && (precedes d.predecessor d.serial && not (has_sid es d.sid))) e in
+        let q = and_parts (in_order es d.serial) (precedes d.predecessor d.serial && not (has_sid es d.sid)) p.1 in
         let s = and_parts (precedes d.predecessor d.serial) (not (has_sid es d.sid)) q.1 in
         let t = and_parts (ltb d.predecessor d.serial) (eqb d.serial 1 || ltb 0 d.predecessor) s.0 in
         let lower : d.predecessor < d.serial = ltb-true d.predecessor d.serial t.0 in

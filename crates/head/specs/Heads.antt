@@ -5,7 +5,7 @@
 -- opened d                      the entry that the delta record d opens, with no lists yet
 -- including m e                 the entry e with the includes m
 -- excluding m e                 the entry e with the excludes m
--- sofar_in_order es n           the serial n may follow the entries es: the first is 1 to 63, each other one less than that before it
+-- in_order es n           the serial n may follow the entries es: the first is 1 to 63, each other one less than that before it
 -- precedes p n                  the predecessor p is lower than its serial n, and 0 only for serial 1
 -- same_sid a b                  the SIDs are equal, part by part
 -- has_sid es s                  the SID s is that of an entry already read
@@ -64,10 +64,10 @@ abbrev pub excluding : SerialSet → Entry → Entry
 excluding m e =
     record { sid = e.sid; serial = e.serial; predecessor = e.predecessor; includes = e.includes; excludes = m }
 
-abbrev pub sofar_in_order : List Entry → ℕ → Bool
-sofar_in_order [] n = nat_le 1 n && nat_le n 63
-sofar_in_order (e ∷ []) n = n + 1 == e.serial
-sofar_in_order (e ∷ f ∷ es) n = sofar_in_order (f ∷ es) n
+abbrev pub in_order : List Entry → ℕ → Bool
+in_order [] n = nat_le 1 n && nat_le n 63
+in_order (e ∷ []) n = n + 1 == e.serial
+in_order (e ∷ f ∷ es) n = in_order (f ∷ es) n
 
 abbrev pub precedes : ℕ → ℕ → Bool
 precedes p n = nat_lt p n && (n == 1 || nat_lt 0 p)
@@ -82,7 +82,7 @@ has_sid (e ∷ es) s = same_sid e.sid s || has_sid es s
 
 abbrev pub sound : List Entry → DeltaRecord → Bool
 sound es d =
-    d.real && (sofar_in_order es d.serial && (precedes d.predecessor d.serial && not (has_sid es d.sid)))
+    d.real && (in_order es d.serial && (precedes d.predecessor d.serial && not (has_sid es d.sid)))
 
 pub data Turn : Type 0 where
   counts : Turn

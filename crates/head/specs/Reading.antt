@@ -6,7 +6,7 @@
 -- delta_at ls p                   what the delta record at p says
 -- set_at p r                      the set in r and the place after p, or the fault at p
 -- list_in own other p o the same of the list in o; the empty set and the place p itself where there is none
--- sheet_list mark own other ls p  the set of the list record at p, with the place after it; the empty set and the same place
+-- list_at mark own other ls p  the set of the list record at p, with the place after it; the empty set and the same place
 --                      where another record stands
 -- follows before n                the serial n may follow `before`, where 64 stands for none
 -- sound_after es b d              the content of a delta record after the entries es, of which the last has the serial b
@@ -50,8 +50,8 @@ abbrev pub list_in : ℕ → SerialSet → ℕ → Option Line → Result (Seria
 list_in own other p None = Ok (unlisted, p)
 list_in own other p (Some r) = set_at p (serial_list own other r)
 
-abbrev pub sheet_list : Line → ℕ → SerialSet → List Line → ℕ → Result (SerialSet × ℕ) Fault
-sheet_list mark own other ls p =
+abbrev pub list_at : Line → ℕ → SerialSet → List Line → ℕ → Result (SerialSet × ℕ) Fault
+list_at mark own other ls p =
     cond (nat_le p (length ls)) (list_in own other p (after mark (line_of ls p))) (Err (placed HeadForm p))
 
 abbrev pub follows : ℕ → ℕ → Bool

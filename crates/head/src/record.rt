@@ -3,7 +3,7 @@ ghost use Rattle.std.specs.Str.{bytes_eq};
 ghost use Rattle.lines.specs.Faults.{placed};
 ghost use Rattle.lines.specs.Lines.{line_of};
 ghost use Rattle.records.specs.HeadRecords.{counts_record, comment_record};
-ghost use Rattle.head.specs.Reading.{record_at, demand, delta_at, sheet_list};
+ghost use Rattle.head.specs.Reading.{record_at, demand, delta_at, list_at};
 
 use lines::fault::{Cause, Fault};
 use lines::line::{LONGEST, fetch};
@@ -107,7 +107,7 @@ pub(crate) fn take_list<S: LineSource>(
 ) -> Result<(SerialSet, usize), Fault>
     requires from { 1 ≤ place }
     requires to { place ≤ 4001 }
-    ensures value { result ≡ sheet_list (1 ∷ letter ∷ 32 ∷ []) own other (S.LineSource.lines source.now) place }
+    ensures value { result ≡ list_at (1 ∷ letter ∷ 32 ∷ []) own other (S.LineSource.lines source.now) place }
     ensures there { IfOk result (λ p. (place ≤ 4000) × (place ≤ p.1) × (p.1 ≤ place + 1)) }
 {
     let mut buf = [0u8; LONGEST];

@@ -63,9 +63,9 @@ module _ {E : Type 0} (k : ℕ) where
       let m : place k (drop i ss) ≡ cond (ltb (get_or ss i d).key k) (suc (place k (drop (i + 1) ss))) 0 = at_drop_more (place k) ss i d h in
       m ∙ rw e
 
-  pub place-within : (ss : List (Slot E)) → place k ss ≤ length ss
-  place-within [] = omega arith
-  place-within (s ∷ ss) = cond_both (ltb s.key k) (suc (place k ss)) 0 (λ n. n ≤ suc (length ss)) (λ _. suc-le-suc (place-within ss)) (λ _. omega arith)
+  pub place_within : (ss : List (Slot E)) → place k ss ≤ length ss
+  place_within [] = omega arith
+  place_within (s ∷ ss) = cond_both (ltb s.key k) (suc (place k ss)) 0 (λ n. n ≤ suc (length ss)) (λ _. suc-le-suc (place_within ss)) (λ _. omega arith)
 
   pub below : (ss : List (Slot E)) (i : ℕ) → i < place k ss → get_or (keys ss) i 0 < k
   below [] i h = absurd (omega arith)
@@ -151,7 +151,7 @@ module _ {E : Type 0} (s : Slot E) where
       let k = s.key in
       let p = place k ss in
       let n = length-map ss (λ (t : Slot E). t.key) in
-      let w = place-within k ss in
+      let w = place_within k ss in
       let r : Rising (insert (keys ss) p k) =
       rises_inserted (keys ss) p k (omega arith) up (λ i l. below k ss i l) (λ i l m.
       let a = above k ss (omega arith) in

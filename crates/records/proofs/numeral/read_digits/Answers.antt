@@ -3,24 +3,24 @@ use Rattle.records.specs.Numerals.{reads, digit}
 use Rattle.records.proofs.Digits.{reads_more, reads_stop, reads_end, digit_small, ten_more, ten_up}
 use Rattle.records.proofs.numeral.read_digits.Goals as goal
 
-pub overflow-mul-n : goal.overflow-mul-n
-overflow-mul-n c = omega (arith, ten_up c.loop-b.b-index 4 (omega arith))
+pub overflow_mul-n : goal.overflow_mul-n
+overflow_mul-n c = omega (arith, ten_up c.loop-b.b-index 4 (omega arith))
 
-pub overflow-add-n : goal.overflow-add-n
-overflow-add-n c = omega (arith, ten_up c.loop-b.b-index 4 (omega arith))
+pub overflow_add-n : goal.overflow_add-n
+overflow_add-n c = omega (arith, ten_up c.loop-b.b-index 4 (omega arith))
 
 pub loop-b-preserved : goal.loop-b-preserved
 loop-b-preserved c =
-    let here : true ≡ digit (get_or c.args.word.now c.loop-b.b-index 0) = c.if-not-is-digit.ensures in (
+    let here : true ≡ digit (get_or c.args.word.now c.loop-b.b-index 0) = c.if-not-is_digit.ensures in (
       omega (arith, ten_more c.loop-b.b-index, digit_small (get_or c.args.word.now c.loop-b.b-index 0) (sym here), c.from.ensures),
       ap (λ v. reads (c.loop-b.n * 10 + v) (drop (c.loop-b.b-index + 1) c.args.word.now)) c.from.ensures
           ∙ sym (reads_more c.loop-b.n c.args.word.now c.loop-b.b-index c.loop-b-test.true (sym here)) ∙ c.loop-b.invariant.1,
     )
 
-pub returns-then-not-is-digit : goal.returns-then-not-is-digit
-returns-then-not-is-digit c =
+pub returns-then-not-is_digit : goal.returns-then-not-is_digit
+returns-then-not-is_digit c =
     record {
-      value = sym (sym c.loop-b.invariant.1 ∙ reads_stop c.loop-b.n c.args.word.now c.loop-b.b-index c.loop-b-test.true (sym c.if-not-is-digit.ensures));
+      value = sym (sym c.loop-b.invariant.1 ∙ reads_stop c.loop-b.n c.args.word.now c.loop-b.b-index c.loop-b-test.true (sym c.if-not-is_digit.ensures));
       small = tt;
     }
 

@@ -5,11 +5,11 @@ use Rattle.records.specs.Pieces.{serial_at}
 use Rattle.records.specs.SerialLists.{numbers, allowed, serial_list}
 use Rattle.records.proofs.ListLaws.{judged, left, bad, taken, passed}
 use Rattle.records.proofs.serial_list.read_serials.Goals as goal
-use Rattle.records.proofs.serial_list.read_serials.Goals.{then-sound+then-is-allowed, else-sound, else-sound-via-then-sound+else-is-allowed, else-sound-via-else-sound}
+use Rattle.records.proofs.serial_list.read_serials.Goals.{then-sound+then-is_allowed, else-sound, else-sound-via-then-sound+else-is_allowed, else-sound-via-else-sound}
 
-pub returns-in-default : goal.returns-in-default
-returns-in-default c =
-    sym (bad c.args.own c.args.other c.args.rest.now c.loop-at.at c.loop-at-test.true c.loop-at.sound c.loop-at.last c.loop-at.set (sym c.in-default.ensures.value)) ∙ c.loop-at.invariant.1
+pub returns-in_default : goal.returns-in_default
+returns-in_default c =
+    sym (bad c.args.own c.args.other c.args.rest.now c.loop-at.at c.loop-at-test.true c.loop-at.sound c.loop-at.last c.loop-at.set (sym c.in_default.ensures.value)) ∙ c.loop-at.invariant.1
 
 pub loop-at-preserved : goal.loop-at-preserved
 loop-at-preserved c =
@@ -28,8 +28,8 @@ loop-at-preserved c =
     let within : end ≤ length bs = c.in-Some.ensures.within.1 in
     let so : judged sound last set own other (numbers (left bs at)) ≡ serial_list own other bs = c.loop-at.invariant.1 in
     elim c.if-sound.branch [
-      | then-sound+then-is-allowed w ↦
-          let yes : allowed n last own other ≡ true = sym w.is-allowed.ensures.value ∙ w.if-is-allowed.true in
+      | then-sound+then-is_allowed w ↦
+          let yes : allowed n last own other ≡ true = sym w.is_allowed.ensures.value ∙ w.if-is_allowed.true in
           let l : c.if-sound.last ≡ n = w.last-is in
           let m : c.if-sound.set ≡ with_serial set n = w.set-is ∙ w.with-set.ensures.value in
           let s : c.if-sound.sound ≡ true = w.sound-is ∙ w.if-sound.true in
@@ -39,7 +39,7 @@ loop-at-preserved c =
                 ∙ sym t ∙ ap (λ x. judged x last set own other (numbers (left bs at))) (sym w.if-sound.true) ∙ so,
           )
       | else-sound w ↦
-          let no : (sound && allowed n last own other) ≡ false = elim w.else-sound.branch [ else-sound-via-then-sound+else-is-allowed v ↦ and_right sound _ (sym v.is-allowed.ensures.value ∙ v.if-is-allowed.false) | else-sound-via-else-sound v ↦ and_left _ _ v.if-sound.false ] in
+          let no : (sound && allowed n last own other) ≡ false = elim w.else-sound.branch [ else-sound-via-then-sound+else-is_allowed v ↦ and_right sound _ (sym v.is_allowed.ensures.value ∙ v.if-is_allowed.false) | else-sound-via-else-sound v ↦ and_left _ _ v.if-sound.false ] in
           let l : c.if-sound.last ≡ last = w.last-is in
           let m : c.if-sound.set ≡ set = w.set-is in
           let s : c.if-sound.sound ≡ false = w.sound-is in

@@ -4,4 +4,4 @@ use Rattle.head.proofs.table.methods.has_sid.Goals as goal
 
 pub returns : goal.returns
 returns c =
-    c.is-some.ensures ∙ ap is_some c.find-in.ensures ∙ has_serial c.args.es.now c.args.sid
+    c.is_some.ensures ∙ ap is_some c.find_in.ensures ∙ has_serial c.args.es.now c.args.sid

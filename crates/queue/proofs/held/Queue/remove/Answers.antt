@@ -25,7 +25,7 @@ invariant_of-self g c =
     let ss = take q.len q.row.all.now in
     let R : List (Slot g.row.E.Denot) → Type 0 = λ ts. Rising (keys ts) in
     let left : take (q.len - 1) c.close.new.self.all.now ≡ remove ss c.in_ok-at.at = c.close.ensures.front in
-    (omega (arith, c.close.ensures.room), (subst R (sym left) (rises_without ss c.in_ok-at.at f.0 q.rising), tt))
+    record { fits = omega (arith, c.close.ensures.room); rising = subst R (sym left) (rises_without ss c.in_ok-at.at f.0 q.rising) }
 
 pub returns : goal.returns
 returns g c =
