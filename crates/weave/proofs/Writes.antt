@@ -1,8 +1,12 @@
 -- The steps of a writer.
 use Rattle.std.proofs.Common.{◌≡◌, ℕ, ◌+◌, ◌-◌, ◌<◌, ◌≤◌, Bool, true, false, cond, List, [], ◌∷◌, ◌++◌, length, get_or, take, drop, set, Some, None, Option, sym, refl, ap, ◌∙◌, subst, arith}
+use Rattle.std.proofs.lemmas.Bool.{lt-leb}
 use Rattle.std.proofs.lemmas.List.{at_drop_more, at_drop_all, append_assoc, append-nil, length-append, length-take-le, take_at, drop_at, drop-drop, drop_more, set_at, length-drop, take-append-drop}
+use Rattle.lines.specs.declared.fault.Cause.TheVariants.{BufferTooSmall}
+use Rattle.lines.specs.Faults.{accepted, plain}
 use Rattle.lines.specs.Lines.{Line, fronted}
-use Rattle.whole.specs.Whole.{row_at, text_of}
+use Rattle.lines.proofs.LineLaws.{check_passes}
+use Rattle.whole.specs.Whole.{row_at, row_refusal, text_of}
 use Rattle.sets.specs.Bits.{Serials}
 use Rattle.records.specs.BodyRecords.{Mark, Record, record_of, body}
 use Rattle.weave.specs.Marks.{then_open, shown}
@@ -19,6 +23,9 @@ pub record Written (all was out : List ℕ) (at : ℕ) (left : List Line) : Type
 -- there is room for the next line and its LF
 pub next_fits : {all was out : List ℕ} {at : ℕ} {l : Line} {left : List Line} → Written all was out at (l ∷ left) → at + length l < length out
 next_fits {out = out} {at = at} {l = l} {left = left} w = let fits = w.fits in let own = length-append l (10 ∷ text_of left) in omega arith
+
+pub row_fits : (len at space : ℕ) → at + len < space → row_refusal len at space ≡ accepted
+row_fits len at space room = check_passes _ (plain BufferTooSmall) accepted (lt-leb space (at + len) room)
 
 pub written_more : (all was out new : List ℕ) (at : ℕ) (l : Line) (left : List Line) → Written all was out at (l ∷ left)
     → new ≡ row_at l at out → Written all was new (at + length l + 1) left

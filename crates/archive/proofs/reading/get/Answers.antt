@@ -13,21 +13,21 @@ pub returns : goal.returns
 returns g c =
     let ls = g.S.LineSource.lines c.args.source.now in
     let h = g.S.LineSource.health c.args.source.now in
-    let es = entries c.in-ok-head.head.table in
-    let n = c.in-ok-head.head.records in
+    let es = entries c.in_ok-head.head.table in
+    let n = c.in_ok-head.head.records in
     let r = c.args.request in
     let out = c.args.out.now in
     let chosen = c.choose-chosen.result in
-    let o : head_of h ls ≡ Ok (es, n) = read_ok _ _ _ c.open-head.ensures.value c.in-ok-head.was in
+    let o : head_of h ls ≡ Ok (es, n) = read_ok _ _ _ c.open_head.ensures.value c.in_ok-head.was in
     let few : c.len.result ≡ length es = c.len.ensures in
     record {
       answer =
-          c.hand-out.ensures.answer
+          c.hand_out.ensures.answer
           ∙ ap (λ k. verdict (hand_refusal k n ls chosen (length out)) (measure_of (shown_of k (chosen_set chosen) n ls))) few
           ∙ answer_is es n ls r (length out) measure_of chosen c.choose-chosen.ensures
           ∙ sym (ap (λ (o : Outcome). verdict (get_refusal o ls r (length out)) (measure_of (get_lines o ls r))) o);
       bytes =
-          c.hand-out.ensures.bytes
+          c.hand_out.ensures.bytes
           ∙ ap (λ k. left (hand_refusal k n ls chosen (length out)) (fronted (text_of (shown_of k (chosen_set chosen) n ls)) out) out) few
           ∙ left_is es n ls r (length out) (λ xs. fronted (text_of xs) out) out chosen c.choose-chosen.ensures
           ∙ sym (ap (λ (o : Outcome). left (get_refusal o ls r (length out)) (fronted (text_of (get_lines o ls r)) out) out) o);

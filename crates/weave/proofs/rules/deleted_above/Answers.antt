@@ -31,15 +31,15 @@ loop-at-preserved-else-contains c =
           ∙ absent_hides_nothing (serials c.args.set) c.args.low s.element s.key (marks (drop at ss)) (sym c.if-contains.ensures) ∙ c.loop-at.invariant.1,
     )
 
-pub loop-at-preserved-in-default-element : goal.loop-at-preserved-in-default-element
-loop-at-preserved-in-default-element c =
+pub loop-at-preserved-in_default-element : goal.loop-at-preserved-in_default-element
+loop-at-preserved-in_default-element c =
     let s = c.in-Some.slot in
     let ss = items c.args.marks.now in
     let at = c.loop-at.at in (
       omega (arith, c.loop-at.invariant.0),
       step_back ss at s c.loop-at-test.true c.loop-at.invariant.0 (c.in-Some.ensures.stands.1 s) (deleted_above (serials c.args.set) c.args.low)
-          ∙ insert_hides_nothing (serials c.args.set) c.args.low s.element s.key (marks (drop at ss)) c.in-default-element.not-Delete ∙ c.loop-at.invariant.1,
+          ∙ insert_hides_nothing (serials c.args.set) c.args.low s.element s.key (marks (drop at ss)) c.in_default-element.not-Delete ∙ c.loop-at.invariant.1,
     )
 
 pub loop-at-preserved : goal.loop-at-preserved
-loop-at-preserved c = let past = c.in-default.ensures.stands in absurd (omega (arith, c.loop-at.invariant.0))
+loop-at-preserved c = let past = c.in_default.ensures.stands in absurd (omega (arith, c.loop-at.invariant.0))

@@ -15,14 +15,14 @@ returns-in-Insert c =
     let s = c.in-Some.slot in
     inserter_back (items c.args.marks.now) c.loop-at.at s c.loop-at-test.true c.loop-at.invariant.0 (c.in-Some.ensures.stands.1 s) c.in-Insert.field-0 (rises c.args.marks.now) c.in-Insert.is c.loop-at.invariant.1
 
-pub loop-at-preserved-in-default-element : goal.loop-at-preserved-in-default-element
-loop-at-preserved-in-default-element c =
+pub loop-at-preserved-in_default-element : goal.loop-at-preserved-in_default-element
+loop-at-preserved-in_default-element c =
     let s = c.in-Some.slot in
     let ss = items c.args.marks.now in
     let at = c.loop-at.at in (
       omega (arith, c.loop-at.invariant.0),
-      step_back ss at s c.loop-at-test.true c.loop-at.invariant.0 (c.in-Some.ensures.stands.1 s) inserter ∙ no_inserter s.element s.key (marks (drop at ss)) c.in-default-element.not-Insert ∙ c.loop-at.invariant.1,
+      step_back ss at s c.loop-at-test.true c.loop-at.invariant.0 (c.in-Some.ensures.stands.1 s) inserter ∙ no_inserter s.element s.key (marks (drop at ss)) c.in_default-element.not-Insert ∙ c.loop-at.invariant.1,
     )
 
 pub loop-at-preserved : goal.loop-at-preserved
-loop-at-preserved c = let past = c.in-default.ensures.stands in absurd (omega (arith, c.loop-at.invariant.0))
+loop-at-preserved c = let past = c.in_default.ensures.stands in absurd (omega (arith, c.loop-at.invariant.0))

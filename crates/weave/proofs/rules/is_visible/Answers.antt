@@ -6,7 +6,7 @@ use Rattle.weave.proofs.rules.is_visible.Goals as goal
 
 pub returns-then-contains : goal.returns-then-contains
 returns-then-contains c =
-    visible_in (serials c.args.set) (open_marks c.args.marks.now) c.inserter-n.result c.inserter-n.ensures _ c.if-contains.ensures c.deleted-above.ensures
+    visible_in (serials c.args.set) (open_marks c.args.marks.now) c.inserter-n.result c.inserter-n.ensures _ c.if-contains.ensures c.deleted_above.ensures
 
 pub returns-else-contains : goal.returns-else-contains
 returns-else-contains c =

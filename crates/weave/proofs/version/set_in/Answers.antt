@@ -7,7 +7,7 @@ use Rattle.weave.specs.Tables.{lists, delta_of, deltas}
 use Rattle.head.specs.declared.table.Entry.{Entry}
 use Rattle.weave.proofs.VersionSteps.{marks_more, step_in, step_out, or_none}
 use Rattle.weave.proofs.version.set_in.Goals as goal
-use Rattle.weave.proofs.version.set_in.Goals.{then-is-in, else-is-in, then-reached-n, else-reached-n}
+use Rattle.weave.proofs.version.set_in.Goals.{then-is_in, else-is_in, then-reached-n, else-reached-n}
 
 pub loop-i-init : goal.loop-i-init
 loop-i-init c k =
@@ -35,19 +35,19 @@ loop-i-preserved c k =
       | else-reached-n w ↦ w.reached-is ∙ sym (cond-false _ _ _ (ne_eqb v n w.if-reached-n.false))
     ] in
     c.loop-i.invariant k ∙ here
-    ∙ elim c.if-is-in.branch [
-      | then-is-in w ↦
-          let set_is : (j : ℕ) → serials c.if-is-in.set j ≡ (s j || eqb n j) = λ j. ap (λ x. serials x j) w.set-is ∙ w.with-set.ensures.serials (omega arith) j in
-          let outs-are : (j : ℕ) → serials c.if-is-in.outs j ≡ (serials outs j || (serials entry.excludes j && not (serials ins j))) =
+    ∙ elim c.if-is_in.branch [
+      | then-is_in w ↦
+          let set_is : (j : ℕ) → serials c.if-is_in.set j ≡ (s j || eqb n j) = λ j. ap (λ x. serials x j) w.set-is ∙ w.with-set.ensures.serials (omega arith) j in
+          let outs-are : (j : ℕ) → serials c.if-is_in.outs j ≡ (serials outs j || (serials entry.excludes j && not (serials ins j))) =
           λ j. ap (λ x. serials x j) w.outs-is ∙ w.union-outs.ensures j ∙ ap (λ b. serials outs j || b) (w.without.ensures j) in
-          let ins-are : (j : ℕ) → serials c.if-is-in.ins j ≡ (serials ins j || serials entry.includes j) = λ j. ap (λ x. serials x j) w.ins-is ∙ w.union-ins.ensures j in
-          step_in s e es v m n v' count reached (serials c.if-is-in.set) (marks (lists c.if-is-in.ins c.if-is-in.outs)) w.if-is-in.ensures set_is
-          (marks_more (lists ins outs) e.lists (lists c.if-is-in.ins c.if-is-in.outs) outs-are ins-are) k
-      | else-is-in w ↦
-          step_out s e es v m n v' count reached w.if-is-in.ensures k
+          let ins-are : (j : ℕ) → serials c.if-is_in.ins j ≡ (serials ins j || serials entry.includes j) = λ j. ap (λ x. serials x j) w.ins-is ∙ w.union-ins.ensures j in
+          step_in s e es v m n v' count reached (serials c.if-is_in.set) (marks (lists c.if-is_in.ins c.if-is_in.outs)) w.if-is_in.ensures set_is
+          (marks_more (lists ins outs) e.lists (lists c.if-is_in.ins c.if-is_in.outs) outs-are ins-are) k
+      | else-is_in w ↦
+          step_out s e es v m n v' count reached w.if-is_in.ensures k
           ∙ ap (λ x. serials x k || members es v' m k) (sym w.set-is)
-          ∙ ap (λ x. serials c.if-is-in.set k || members es v' (marks (lists x outs)) k) (sym w.ins-is)
-          ∙ ap (λ x. serials c.if-is-in.set k || members es v' (marks (lists c.if-is-in.ins x)) k) (sym w.outs-is)
+          ∙ ap (λ x. serials c.if-is_in.set k || members es v' (marks (lists x outs)) k) (sym w.ins-is)
+          ∙ ap (λ x. serials c.if-is_in.set k || members es v' (marks (lists c.if-is_in.ins x)) k) (sym w.outs-is)
     ]
 
 pub returns : goal.returns

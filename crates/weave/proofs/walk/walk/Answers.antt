@@ -12,32 +12,32 @@ use Rattle.sets.specs.Serials.{serials}
 use Rattle.weave.specs.Open.{mark_of, open_marks}
 use Rattle.weave.proofs.Walks.{outcome, fault_at, went_none, goes_on, goes_on_with, stops, ends_open, all_ended, read_is, seen_short}
 use Rattle.weave.proofs.walk.walk.Goals as goal
-use Rattle.weave.proofs.walk.walk.Goals.{in-Some, in-default}
+use Rattle.weave.proofs.walk.walk.Goals.{in-Some, in_default}
 
-pub returns-then-not-is-allowed : goal.returns-then-not-is-allowed
-returns-then-not-is-allowed g c =
+pub returns-then-not-is_allowed : goal.returns-then-not-is_allowed
+returns-then-not-is_allowed g c =
     let ls = g.S.LineSource.lines c.args.source.now in
     let s = serials c.args.set in
     let top = c.args.top in
     let i = c.loop-i.i in
-    let r = meaning c.read-record-next.result in
-    let is = read_is top ls i c.fetch-len.result c.fetch-len.new.buf r c.read-record-next.ensures (c.fetch-len.ensures.whole (omega arith) (omega (arith, c.loop-i.invariant.0))) in
+    let r = meaning c.read_record-next.result in
+    let is = read_is top ls i c.fetch-len.result c.fetch-len.new.buf r c.read_record-next.ensures (c.fetch-len.ensures.whole (omega arith) (omega (arith, c.loop-i.invariant.0))) in
     let all = body top (drop c.args.head ls) in
     record {
-      answer = ap Err c.at.ensures ∙ stops s top (open_marks c.loop-i.marks) (i + 1) c.loop-i.lines c.loop-i.bytes ls i (omega (arith, c.count-count.ensures)) r is (sym c.if-not-is-allowed.ensures)
+      answer = ap Err c.at.ensures ∙ stops s top (open_marks c.loop-i.marks) (i + 1) c.loop-i.lines c.loop-i.bytes ls i (omega (arith, c.count-count.ensures)) r is (sym c.if-not-is_allowed.ensures)
           ∙ c.loop-i.invariant.5 ∙ went_none (breach top [] (c.args.head + 1) all) (shown s [] all);
       room = c.loop-i.invariant.1 ∙ c.clear.ensures.room;
     }
 
-pub overflow-add-bytes-in-Some : goal.overflow-add-bytes-in-Some
-overflow-add-bytes-in-Some g c =
+pub overflow_add-bytes-in-Some : goal.overflow_add-bytes-in-Some
+overflow_add-bytes-in-Some g c =
     let ls = g.S.LineSource.lines c.args.source.now in
     let s = serials c.args.set in
     let top = c.args.top in
     let i = c.loop-i.i in
-    let r = meaning c.read-record-next.result in
-    let is = read_is top ls i c.fetch-len.result c.fetch-len.new.buf r c.read-record-next.ensures (c.fetch-len.ensures.whole (omega arith) (omega (arith, c.loop-i.invariant.0))) in
-    let sees = sym c.seen-line-line.ensures ∙ ap (option_map (λ x. x.now)) c.in-Some.is in
+    let r = meaning c.read_record-next.result in
+    let is = read_is top ls i c.fetch-len.result c.fetch-len.new.buf r c.read_record-next.ensures (c.fetch-len.ensures.whole (omega arith) (omega (arith, c.loop-i.invariant.0))) in
+    let sees = sym c.seen_line-line.ensures ∙ ap (option_map (λ x. x.now)) c.in-Some.is in
     let short = seen_short top ls i c.fetch-len.result s (open_marks c.loop-i.marks) r c.in-Some.l.now is sees (read_length c.fetch-len.result c.fetch-len.new.buf (line_of ls (i + 1)) (c.fetch-len.ensures.whole (omega arith) (omega (arith, c.loop-i.invariant.0))) (omega (arith, c.fetch-len.ensures.fits))) (omega (arith, c.fetch-len.ensures.fits, c.loop-i.invariant.0)) in
     let few : length ls ≤ 4000 = (g.S.LineSource.lawful c.args.source.now).0 in
     omega (arith, c.loop-i.invariant.4, c.count-count.ensures)
@@ -53,10 +53,10 @@ loop-i-preserved g c =
     let ms = open_marks c.loop-i.marks in
     let new = open_marks c.follow.new.marks in
     let rest = body top (drop (i + 1) ls) in
-    let r = meaning c.read-record-next.result in
-    let is = read_is top ls i c.fetch-len.result c.fetch-len.new.buf r c.read-record-next.ensures (c.fetch-len.ensures.whole (omega arith) (omega (arith, c.loop-i.invariant.0))) in
+    let r = meaning c.read_record-next.result in
+    let is = read_is top ls i c.fetch-len.result c.fetch-len.new.buf r c.read_record-next.ensures (c.fetch-len.ensures.whole (omega arith) (omega (arith, c.loop-i.invariant.0))) in
     let inside : i < length ls = omega (arith, c.count-count.ensures) in
-    let may = sym c.if-not-is-allowed.ensures in
+    let may = sym c.if-not-is_allowed.ensures in
     let size = c.fetch-len.auto.buf ∙ c.loop-i.invariant.0 in
     let fits = c.follow.ensures.room ∙ c.loop-i.invariant.1 in
     let low = c.loop-i.invariant.3 in
@@ -64,7 +64,7 @@ loop-i-preserved g c =
     elim c.match-line.branch [
       | in-Some w ↦
           let l = w.in-Some.l.now in
-          let sees = sym c.seen-line-line.ensures ∙ ap (option_map (λ x. x.now)) w.in-Some.is in
+          let sees = sym c.seen_line-line.ensures ∙ ap (option_map (λ x. x.now)) w.in-Some.is in
           let short = seen_short top ls i c.fetch-len.result s ms r l is sees (read_length c.fetch-len.result c.fetch-len.new.buf (line_of ls (i + 1)) (c.fetch-len.ensures.whole (omega arith) (omega (arith, c.loop-i.invariant.0))) (omega (arith, c.fetch-len.ensures.fits))) (omega (arith, c.fetch-len.ensures.fits, c.loop-i.invariant.0)) in (
             size,
             fits,
@@ -76,8 +76,8 @@ loop-i-preserved g c =
                 ∙ ap (λ us. outcome s top us (i + 1 + 1) (n + 1) (b + (length l + 1)) rest) c.follow.ensures.after
                 ∙ goes_on_with s top ms (i + 1) n b ls i inside r l is may sees ∙ c.loop-i.invariant.5,
           )
-      | in-default w ↦
-          let none = sym c.seen-line-line.ensures ∙ ap (option_map (λ x. x.now)) w.in-default.is in (
+      | in_default w ↦
+          let none = sym c.seen_line-line.ensures ∙ ap (option_map (λ x. x.now)) w.in_default.is in (
             size,
             fits,
             c.follow.ensures.bounded,
