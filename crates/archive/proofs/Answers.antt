@@ -1,5 +1,5 @@
 -- What the calls answer, from what the head was read as and what was chosen.
-use Rattle.std.proofs.Common.{◌≡◌, ℕ, List, length, Some, None, Ok, Err, Option, Result, sym, refl, ap, ◌∙◌, arith}
+use Rattle.std.proofs.Common.{◌≡◌, ℕ, List, length, Some, None, Ok, Err, Option, Result, sym, refl, ap, ◌∙◌}
 use mathlib.Core.Path.{fun_ext}
 use Rattle.std.specs.Result as results
 use Rattle.lines.specs.declared.fault.Fault.{Fault}
@@ -14,7 +14,7 @@ use Rattle.head.specs.declared.reading.Head.{Head}
 use Rattle.head.specs.Heads.{Outcome}
 use Rattle.head.specs.Tables.{entries, serial_of, loaded}
 use Rattle.weave.specs.Versions.{Lists}
-use Rattle.weave.specs.Handing.{body_refusal, shown_of, chosen_set, choice_refusal, hand_refusal}
+use Rattle.weave.specs.Handing.{body_refusal, shown_of, chosen_set, hand_refusal}
 use Rattle.archive.specs.Requests.{lists_of, first_bad, listed, list_refusal, known_refusal, request_refusal, request_set}
 use Rattle.archive.specs.Reading.{get_refusal, get_lines}
 use Rattle.archive.specs.declared.request.Request.{Request}

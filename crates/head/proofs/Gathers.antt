@@ -1,12 +1,12 @@
 -- The serials of a list that is allowed. Assumes nothing.
-use Rattle.std.proofs.Common.{◌≡◌, ℕ, ◌/◌, ◌%◌, ◌^◌, ◌<◌, ◌≤◌, Bool, true, false, cond, not, ◌&&◌, ◌||◌, eqb, ltb, ◌⊎◌, List, [], ◌∷◌, length, get_or, Some, None, Ok, Err, Option, Result, sym, refl, ap, ◌∙◌, subst, inl, inr, ⊎_elim, arith}
+use Rattle.std.proofs.Common.{◌≡◌, ℕ, ◌/◌, ◌%◌, ◌^◌, ◌<◌, ◌≤◌, Bool, true, false, cond, not, ◌&&◌, eqb, ltb, ◌⊎◌, List, [], ◌∷◌, length, get_or, Some, None, Ok, Err, Option, Result, sym, refl, ap, ◌∙◌, subst, inl, inr, ⊎_elim, arith}
 use lib.Bits.{bit_or}
 use Rattle.std.proofs.lemmas.List.{set_past}
 use Rattle.std.proofs.lemmas.Bool.{and_parts, or_cases, not-true, ltb-true, eqb-true, cases_lt}
 use Rattle.lines.specs.declared.fault.Cause.{Cause}
 use Rattle.lines.specs.declared.fault.Cause.TheVariants.{HeadContent}
 use Rattle.sets.specs.declared.set.SerialSet.{SerialSet}
-use Rattle.sets.specs.Bits.{bits, raised}
+use Rattle.sets.specs.Bits.{bits}
 use Rattle.sets.specs.Serials.{serials, unlisted, with_serial, gathered}
 use Rattle.sets.proofs.Words.{bits_with, bits_none}
 use Rattle.records.specs.SerialLists.{allowed, all_allowed, worth}

@@ -1,5 +1,5 @@
 -- One record more of a head. Assumes nothing.
-use Rattle.std.proofs.Common.{◌≡◌, ℕ, ◌+◌, ◌-◌, ◌<◌, ◌≤◌, Bool, true, false, cond, ◌&&◌, eqb, leb, List, [], ◌∷◌, ◌++◌, length, get_or, take, drop, Some, None, Ok, Err, Option, Result, sym, refl, ap, ◌∙◌, ⊎_elim, arith}
+use Rattle.std.proofs.Common.{◌≡◌, ℕ, ◌+◌, ◌-◌, ◌≤◌, Bool, true, false, cond, ◌&&◌, leb, List, [], ◌∷◌, length, drop, Some, None, Ok, Err, Option, Result, sym, refl, ap, ◌∙◌, ⊎_elim, arith}
 use Rattle.std.specs.Option.{ok_or}
 use Rattle.std.proofs.lemmas.List.{drop_more, drop_all}
 use Rattle.std.proofs.lemmas.Bool.{cond-true, cond-false, cases_lt, cases_Bool, le-leb, lt-leb}
@@ -15,7 +15,7 @@ use Rattle.records.specs.HeadRecords.{after}
 use Rattle.records.specs.DeltaRecords.{delta_record}
 use Rattle.records.specs.SerialLists.{serial_list}
 use Rattle.head.specs.declared.table.Entry.{Entry}
-use Rattle.head.specs.Heads.{Turn, Step, fault, next, whole, counts, delta, lists, excludes, comment, close, last, formal, judge, proceed, walk, Outcome, on_delta, sound, opened, including, excluding, on_includes, on_excludes, on_comment, with_set, includes_mark, excludes_mark, in_order}
+use Rattle.head.specs.Heads.{Turn, Step, fault, next, delta, lists, formal, judge, proceed, walk, on_delta, sound, opened, with_set}
 use Rattle.head.specs.Reading.{rest, demand, delta_at, list_at, list_in, set_at}
 
 both : {X : Type 0} (a b : Bool) (x y : X) → cond a (cond b x y) y ≡ cond (a && b) x y

@@ -1,8 +1,8 @@
 -- Control records by their first three bytes. Assumes nothing.
-use Rattle.std.proofs.Common.{◌≡◌, ℕ, ◌-◌, ◌≤◌, List, [], ◌∷◌, length, get_or, take, drop, Option, sym, refl, ap, ◌∙◌, arith}
+use Rattle.std.proofs.Common.{◌≡◌, ℕ, ◌-◌, ◌≤◌, List, [], ◌∷◌, length, get_or, take, drop, Option, sym, ap, ◌∙◌, arith}
 use Rattle.std.proofs.lemmas.List.{take_rest}
 use Rattle.std.proofs.lemmas.Bool.{cond-true, eq-eqb}
-use Rattle.records.specs.BodyRecords.{Record, control, record_of}
+use Rattle.records.specs.BodyRecords.{control, record_of}
 use Rattle.records.specs.Numerals.{serial_up_to}
 
 pub control_at : (top k : ℕ) (xs : List ℕ) → 3 ≤ length xs → get_or xs 0 0 ≡ 1 → get_or xs 1 0 ≡ k → get_or xs 2 0 ≡ 32

@@ -1,10 +1,10 @@
 -- What a walk's answer says of the refusal, and a head that is longer than the lines.
-use Rattle.std.proofs.Common.{◌≡◌, ℕ, ◌+◌, ◌<◌, ◌≤◌, min, ltb, List, [], length, drop, Some, None, Ok, Err, Result, sym, refl, ap, ◌∙◌, ⊎_elim, arith}
+use Rattle.std.proofs.Common.{◌≡◌, ℕ, ◌+◌, ◌<◌, ◌≤◌, min, List, [], length, Some, None, Ok, Err, Result, sym, refl, ap, ◌∙◌, ⊎_elim, arith}
 use Rattle.std.specs.Result.{result_unwrap_or}
 use Rattle.std.proofs.lemmas.List.{at_drop_all}
 use Rattle.std.proofs.lemmas.Bool.{cases_lt}
 use Rattle.lines.specs.declared.fault.Fault.{Fault}
-use Rattle.lines.specs.Faults.{Refusal, first_refusal, verdict}
+use Rattle.lines.specs.Faults.{Refusal, verdict}
 use Rattle.lines.specs.Lines.{Line}
 use Rattle.sets.specs.Bits.{Serials}
 use Rattle.sets.specs.Serials.{serials}

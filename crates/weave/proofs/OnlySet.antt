@@ -1,8 +1,8 @@
 -- The set of a version decides each serial as the relation asks, and no other set does.
-use Rattle.std.proofs.Common.{◌≡◌, ℕ, zero, suc, ◌+◌, ◌-◌, ◌<◌, ◌≤◌, Bool, true, false, cond, eqb, ◌⊎◌, List, [], ◌∷◌, length, Some, None, Option, sym, refl, ap, ◌∙◌, subst, inl, inr, ⊎_elim, true≢false, arith}
+use Rattle.std.proofs.Common.{◌≡◌, ℕ, zero, suc, ◌+◌, ◌<◌, ◌≤◌, Bool, true, false, cond, eqb, ◌⊎◌, List, [], ◌∷◌, length, Some, None, Option, sym, refl, ap, ◌∙◌, subst, inl, inr, ⊎_elim, true≢false, arith}
 use Rattle.std.proofs.lemmas.Bool.{cond_both, cond-true, cond-false, cases_Bool, cases_eq, cases_lt, eq-eqb, ne_eqb, eqb-true, eqb-false}
 use Rattle.sets.specs.Bits.{Serials}
-use Rattle.weave.specs.Versions.{Lists, Delta, Marked, marks, or_else, marked_or, members, set_of}
+use Rattle.weave.specs.Versions.{Delta, Marked, marks, or_else, marked_or, members, set_of}
 use Rattle.weave.specs.Relation.{HasDelta, newest, older, Reached, itself, onward, MarkedBy, Stands, called, listed, reached, unreached, IsSetOf, Descends, TheOnlySet}
 
 -- a table's serials are 1 to its length, each of one delta

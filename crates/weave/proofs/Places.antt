@@ -1,11 +1,11 @@
 -- What a set shows, by places: the marks of a walk are those that are open by places.
-use Rattle.std.proofs.Common.{◌≡◌, ℕ, suc, ◌+◌, ◌<◌, ◌≤◌, Bool, true, false, cond, not, ◌&&◌, ◌||◌, eqb, ltb, ◌⊎◌, List, [], ◌∷◌, sym, refl, ap, ◌∙◌, inl, inr, ⊎_elim, true≢false, add-zero, arith}
-use Rattle.std.proofs.lemmas.Bool.{cond_both, cases_lt, cases_eq, ltb-true, and_parts, and_cases, and_from, not-true, not-false, not_from_false}
+use Rattle.std.proofs.Common.{◌≡◌, ℕ, suc, ◌+◌, ◌<◌, ◌≤◌, true, false, not, ltb, ◌⊎◌, List, [], ◌∷◌, sym, ap, ◌∙◌, inl, inr, ⊎_elim, true≢false, add-zero, arith}
+use Rattle.std.proofs.lemmas.Bool.{cond_both, cases_lt, ltb-true, and_parts, and_cases, not-true, not-false}
 use Rattle.lines.specs.Lines.{Line}
 use Rattle.sets.specs.Bits.{Serials}
-use Rattle.records.specs.BodyRecords.{Mark, insertion, deletion, serial, Record, opens, ends, text, wrong}
+use Rattle.records.specs.BodyRecords.{Mark, insertion, deletion, serial, Record, opens, ends, text}
 use Rattle.weave.specs.Marks.{with_mark, closed, inserter, deleted_above, visible, shown}
-use Rattle.weave.specs.Rules.{is_open, may_open, may_close, Valid}
+use Rattle.weave.specs.Rules.{is_open, may_open}
 use Rattle.weave.specs.Places.{record_at, OpenAt, ShowsAt, Chosen, taken, passed, ShownByPlaces}
 use Rattle.weave.specs.Places as places
 use Rattle.weave.proofs.Obeys.{Obeys, done, opening, ending, lying, obeys}

@@ -1,5 +1,5 @@
 -- The steps of a walk.
-use Rattle.std.proofs.Common.{◌≡◌, ℕ, ◌+◌, ◌-◌, ◌<◌, ◌≤◌, Bool, true, false, cond, eqb, List, [], ◌∷◌, length, get_or, take, drop, Some, None, Ok, Err, Option, Result, sym, refl, ap, ◌∙◌, add-zero, zero-add, arith}
+use Rattle.std.proofs.Common.{◌≡◌, ℕ, ◌+◌, ◌-◌, ◌<◌, ◌≤◌, true, false, cond, eqb, List, [], ◌∷◌, length, get_or, take, drop, Some, None, Ok, Err, Option, Result, sym, refl, ap, ◌∙◌, add-zero, zero-add, arith}
 use native.Mathlib.Nat.{sub-zero}
 use Rattle.std.proofs.lemmas.List.{at_drop_more, at_drop_all, length-append}
 use Rattle.std.proofs.lemmas.Bool.{cond_both, cond-true, cond-false}
@@ -12,7 +12,7 @@ use Rattle.sets.specs.Bits.{Serials}
 use Rattle.records.specs.Numerals.{serial_up_to}
 use Rattle.records.specs.BodyRecords.{Mark, Record, opens, ends, text, wrong, control, after_one, record_of, body}
 use Rattle.weave.specs.Marks.{then_open, visible, shown}
-use Rattle.weave.specs.Rules.{empty, allowed, breach}
+use Rattle.weave.specs.Rules.{allowed, breach}
 use Rattle.weave.specs.Handing.{seen, breach_refusal, measure_of}
 use Rattle.weave.specs.declared.measure.Measure.{Measure}
 

@@ -1,7 +1,7 @@
 -- The steps of a writer.
-use Rattle.std.proofs.Common.{◌≡◌, ℕ, ◌+◌, ◌-◌, ◌<◌, ◌≤◌, Bool, true, false, cond, List, [], ◌∷◌, ◌++◌, length, get_or, take, drop, set, Some, None, Option, sym, refl, ap, ◌∙◌, subst, arith}
+use Rattle.std.proofs.Common.{◌≡◌, ℕ, ◌+◌, ◌<◌, ◌≤◌, Bool, true, false, cond, List, [], ◌∷◌, ◌++◌, length, get_or, take, drop, Some, None, Option, sym, refl, ap, ◌∙◌, arith}
 use Rattle.std.proofs.lemmas.Bool.{lt-leb}
-use Rattle.std.proofs.lemmas.List.{at_drop_more, at_drop_all, append_assoc, append-nil, length-append, length-take-le, take_at, drop_at, drop-drop, drop_more, set_at, length-drop, take-append-drop}
+use Rattle.std.proofs.lemmas.List.{at_drop_more, at_drop_all, append_assoc, append-nil, length-append, length-take-le, take_at, drop_at, drop-drop, length-drop, take-append-drop}
 use Rattle.lines.specs.declared.fault.Cause.TheVariants.{BufferTooSmall}
 use Rattle.lines.specs.Faults.{accepted, plain}
 use Rattle.lines.specs.Lines.{Line, fronted}

@@ -10,7 +10,7 @@
 -- IsSetOf ds v l s     s decides so of each serial of the table, and has no other serial
 -- Descends ds          each predecessor is lower than its serial
 -- TheOnlySet           in a table that descends, set_of is such a set, and there is no other
-use Rattle.std.specs.Prelude.{◌≡◌, ℕ, ◌+◌, ◌<◌, ◌≤◌, Bool, true, false, ◌⊎◌, List, [], ◌∷◌, length, Some, None}
+use Rattle.std.specs.Prelude.{◌≡◌, ℕ, ◌+◌, ◌<◌, ◌≤◌, Bool, true, false, List, ◌∷◌, length, Some, None}
 use Rattle.sets.specs.Bits.{Serials}
 use Rattle.weave.specs.Versions.{Lists, Delta, Marked, marks, set_of}
 

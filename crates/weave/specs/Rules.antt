@@ -11,7 +11,7 @@
 -- Valid top rs        a body that breaks no rule
 use Rattle.std.specs.Prelude.{◌≡◌, ℕ, ◌+◌, Bool, true, false, cond, not, ◌&&◌, ◌||◌, List, [], ◌∷◌, Some, None, Option, ◌==◌, nat_le, nat_lt}
 use Rattle.records.specs.BodyRecords.{Mark, insertion, deletion, serial, Record, opens, ends, text, wrong}
-use Rattle.weave.specs.Marks.{with_mark, closed, then_open, inserter}
+use Rattle.weave.specs.Marks.{then_open, inserter}
 
 abbrev pub empty : {A : Type 0} → List A → Bool
 empty [] = true

@@ -3,7 +3,7 @@ use Rattle.std.proofs.lemmas.List.{length-take}
 use Rattle.head.specs.Tables.{entries, serial_of}
 use Rattle.weave.specs.Versions.{Lists, set_of}
 use Rattle.weave.specs.Tables.{lists, deltas}
-use Rattle.archive.specs.Requests.{lists_of, listed}
+use Rattle.archive.specs.Requests.{lists_of}
 use Rattle.archive.proofs.Requests.{lists_are}
 use Rattle.archive.proofs.Answers.{known}
 use Rattle.archive.proofs.choice.choose.Goals as goal

@@ -1,4 +1,3 @@
-use Rattle.std.proofs.Common.{◌≡◌}
 use Rattle.records.proofs.WordLaws.{one_word, two-words, three-words, four-words, five-words, more-words, six-words}
 use Rattle.records.proofs.delta_record.six_words.Goals as goal
 

@@ -1,4 +1,4 @@
-use Rattle.std.proofs.Common.{◌≡◌, true, false, ◌&&◌, leb, length, drop, sym, ap, ◌∙◌, arith}
+use Rattle.std.proofs.Common.{◌≡◌, true, false, length, sym, ◌∙◌, arith}
 use Rattle.std.proofs.lemmas.Bool.{and_from, and_right, le-leb}
 use Rattle.records.specs.Names.{every, comment_byte}
 use Rattle.records.proofs.Bytes.{every_more, every_stop, every_end}

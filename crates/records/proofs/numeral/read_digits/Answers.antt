@@ -1,4 +1,4 @@
-use Rattle.std.proofs.Common.{◌≡◌, ◌+◌, ◌*◌, ◌^◌, ◌<◌, ◌≤◌, true, false, length, get_or, drop, sym, ap, ◌∙◌, arith}
+use Rattle.std.proofs.Common.{◌≡◌, ◌+◌, ◌*◌, true, length, get_or, drop, sym, ap, ◌∙◌, arith}
 use Rattle.records.specs.Numerals.{reads, digit}
 use Rattle.records.proofs.Digits.{reads_more, reads_stop, reads_end, digit_small, ten_more, ten_up}
 use Rattle.records.proofs.numeral.read_digits.Goals as goal

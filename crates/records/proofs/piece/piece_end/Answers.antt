@@ -1,4 +1,4 @@
-use Rattle.std.proofs.Common.{◌≡◌, true, false, not, eqb, sym, ap, ◌∙◌, arith}
+use Rattle.std.proofs.Common.{not, eqb, ap, arith}
 use Rattle.std.proofs.lemmas.List.Sums.{prefix_len-drop_yes, prefix_len-drop_no, prefix_len-drop_all}
 use Rattle.std.proofs.lemmas.Bool.{ne_eqb, eq-eqb}
 use Rattle.records.proofs.piece.piece_end.Goals as goal

@@ -1,10 +1,10 @@
-use Rattle.std.proofs.Common.{◌≡◌, ℕ, ◌+◌, ◌<◌, ◌≤◌, [], length, drop, Err, sym, ap, ◌∙◌, arith}
+use Rattle.std.proofs.Common.{◌≡◌, ◌+◌, ◌<◌, ◌≤◌, [], length, drop, Err, sym, ap, ◌∙◌, arith}
 use Rattle.std.specs.Option.{option_map}
 use Rattle.std.proofs.lemmas.List.{length-map}
 use Rattle.lines.specs.Lines.{line_of}
 use Rattle.whole.proofs.WholeLaws.{read_length}
 use Rattle.queue.specs.Items.{items}
-use Rattle.weave.specs.Marks.{shown, then_open}
+use Rattle.weave.specs.Marks.{shown}
 use Rattle.weave.specs.Rules.{breach}
 use Rattle.records.specs.BodyRecords.{body}
 use Rattle.records.specs.BodyMeaning.{meaning}
