@@ -1,15 +1,15 @@
 #!/bin/bash
 # Times whole processes that read one version out of an s-file: ours against GNU CSSC's get, on the same archive.
 #
-#   bench/reading.sh [RUNS]        from the repository's root, after `rt check tablearc`; 300 runs of each where none are named
+#   bench/reading.sh [RUNS]        from the repository's root, after `rt run` in crates/tablearc; 300 runs of each where none are named
 #
 # Needs python3, CSSC (Debian: cssc) and valgrind. It makes an archive of 60 deltas with CSSC, about 970 records of body and
 # 20,000 bytes; CSSC reads it as it wrote it, and ours reads it in our form (see crates/conformance_sfiles/model/from_cssc.py).
 # Both must print the same tables, or nothing is timed. Runs of the four commands take turns. Instructions are callgrind's
-# total for one run. TABLEARC and CSSC name other programs than target/bin/tablearc and those of Debian's package.
+# total for one run. TABLEARC and CSSC name other programs than crates/tablearc/out/tablearc and those of Debian's package.
 set -eu
 cd "$(dirname "$0")/.."
-export TABLEARC="${TABLEARC:-target/bin/tablearc}"
+export TABLEARC="${TABLEARC:-crates/tablearc/out/tablearc}"
 export CSSC="${CSSC:-/usr/lib/x86_64-linux-gnu/cssc}"
 export RUNS="${1:-300}"
 export PYTHONPATH="crates/conformance_sfiles/model" PYTHONDONTWRITEBYTECODE=1

@@ -1,7 +1,7 @@
 -- What the calls that read an archive answer, over the health and the lines of its source. Assumes nothing.
 --
 -- head_of h ls      the head of the lines ls of a source with health h: its entries, newest first, and how many records
---                      it has; or 10, or the head's fault
+--                   it has; or 10, or the head's fault
 -- val_answer o ls   what `val` answers for the head o: the number of deltas; or the head's refusal, or 13
 -- get_refusal ..    why `get` refuses a request with a buffer of `space` bytes: the head's refusal, 13, 14, 15, 20
 -- get_lines o ls r  the lines that `get` hands out

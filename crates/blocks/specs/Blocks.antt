@@ -13,7 +13,7 @@
 -- health_of          the health: a block store is always whole
 -- block_refusal ..   the refusal of the check before the making
 -- Laid               these lines lie at the front of a sheet, of its limit of lines, its bytes and the lines; each layout
---                     has its own
+--                    has its own
 -- LaidOut ..         the current list and the draft lie on their sheets as the layout has them
 -- Begins l d h       the list l, the draft d and the health h of a store that was made: no lines, no draft, health 0
 use Rattle.std.specs.Prelude.{◌≡◌, ℕ, zero, suc, ◌*◌, Bool, cond, not, ◌&&◌, List, [], ◌∷◌, ◌++◌, length, take, drop, Some, None, Option, nat_le}

@@ -7,7 +7,7 @@
 -- word x p             the 16-bit number at p of the index x
 -- length_at x i p      the length that index entry i (from 0) gives to a line that starts at p; 0 if it has another start
 -- span x room i p      the length of line i, which starts at p, in a text of `room` bytes: that of the index, at most 240
---                    and at most what is left
+--                      and at most what is left
 -- ends x room n        where line n, counted from 0, starts: where the one before it ends
 -- clean b              a byte of a line: a stray LF is read as 0
 -- line_at x t n        line n of the text t

@@ -11,7 +11,7 @@
 -- has_sid es s                  the SID s is that of an entry already read
 -- sound es d                    the content of the delta record d is good after the entries es
 -- Turn                          what the next record is to be: counts, delta, lists e (^i, or what may stand in its place), excludes e,
---                      comment e, close e (the end of the entry e), last ms (the marks ms are still to come)
+--                               comment e, close e (the end of the entry e), last ms (the marks ms are still to come)
 -- Step                          what a record does: fault c, next es t (the entries es are read, and t comes next), whole es (the head ends)
 -- formal b s                    a record of which only the form is judged: s where it is good
 -- with_set r f                  a record with a list: its set leads on, or its cause stops

@@ -4,7 +4,7 @@
 -- Below n m    the serials of the set m are lower than n
 -- Disjoint e   no serial is in both lists of the entry e
 -- Lower e      the predecessor is lower than the serial, and 0 only for serial 1; listed serials are lower, and none is
---                  in both lists
+--              in both lists
 -- Differ es    no SID stands twice
 -- Whole es     1 to 63 entries with serials from their number down to 1, each Lower, and no SID twice
 use Rattle.std.specs.Prelude.{◌≡◌, ℕ, ◌-◌, ◌<◌, ◌≤◌, true, false, List, [], ◌∷◌, length}

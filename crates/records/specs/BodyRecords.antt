@@ -3,7 +3,7 @@
 -- Mark             insertion n or deletion n, the marks ^I and ^D of the serial n
 -- serial m         the serial of the mark m
 -- Record           opens m: the mark m is opened; ends n: the mark of serial n is closed; text l: the line l of text;
---                    wrong: a record that begins with the byte 1 and is none of these
+--                  wrong: a record that begins with the byte 1 and is none of these
 -- control k o      what the letter k makes of the serial in o: I (73), D (68) and E (69)
 -- after_one top l  what stands after the byte 1: a letter, a blank (32) and a serial from 1 to `top`
 -- record_of top l  the record that the line l is, where `top` is the greatest serial

@@ -5,7 +5,7 @@
 -- all_allowed last own other ns  each serial of ns is allowed after the one before it, the first after `last`
 -- worth own other o              the set of the serials in o: HeadForm where there are none, HeadContent where one is not allowed
 -- serial_list own other bs       what the bytes bs are worth as a list of the delta `own`, a single blank (32) between serials,
---                           with the serials of `other` taken
+--                                with the serials of `other` taken
 use Rattle.std.specs.Prelude.{ℕ, Bool, true, cond, not, ◌&&◌, List, [], ◌∷◌, Some, None, Ok, Err, Option, Result, nat_lt}
 use Rattle.std.specs.Option.{option_map}
 use Rattle.lines.specs.declared.fault.Cause.{Cause}

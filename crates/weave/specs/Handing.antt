@@ -10,7 +10,7 @@
 -- chosen_set c              the set that was chosen; none where the choice was refused
 -- choice_refusal c          why the choice was refused
 -- hand_refusal ..           the refusal of handing out the table of the set that was chosen, into `space` bytes: a breach of
---                             the body comes first, then a refused choice, then a buffer that is too small
+--                           the body comes first, then a refused choice, then a buffer that is too small
 use Rattle.std.specs.Prelude.{ℕ, ◌+◌, cond, List, [], length, drop, Some, None, Ok, Err, Option, Result}
 use Rattle.lines.specs.declared.fault.Fault.{Fault}
 use Rattle.lines.specs.declared.fault.Cause.TheVariants.{BodyRule}

@@ -3,9 +3,9 @@
 -- record_at rs i    the record at place i of the body rs, counted from 0
 -- OpenAt rs m i     the mark m is open at place i: it was opened before i and not ended since
 -- ShowsAt s rs i    the set s shows a line at place i: it has the greatest insertion that is open there, and no greater
---                    deletion that is open there
+--                   deletion that is open there
 -- Chosen P i rs ls  of the records rs, the first of which stands at place i, the texts at places that pass P are the
---                    lines ls, in their order
+--                   lines ls, in their order
 -- ShownByPlaces     a set shows of a valid body exactly the lines at the places where ShowsAt holds
 use Rattle.std.specs.Prelude.{◌≡◌, ℕ, ◌+◌, ◌<◌, ◌≤◌, true, false, List, [], ◌∷◌, ◌≢◌, slice_index_or}
 use Rattle.lines.specs.Lines.{Line}

@@ -7,7 +7,7 @@
 -- may_close n ms      a deletion closes wherever it is open, an insertion only as the greatest open one
 -- allowed top ms r    the rule of each kind of record; text needs an open insertion
 -- breach top ms p rs  the place of the first record that breaks a rule, with p for the first record's place; where a
---                        mark is left open, the place after the last record
+--                     mark is left open, the place after the last record
 -- Valid top rs        a body that breaks no rule
 use Rattle.std.specs.Prelude.{◌≡◌, ℕ, ◌+◌, Bool, true, false, cond, not, ◌&&◌, ◌||◌, List, [], ◌∷◌, Some, None, Option, ◌==◌, nat_le, nat_lt}
 use Rattle.records.specs.BodyRecords.{Mark, insertion, deletion, serial, Record, opens, ends, text, wrong}

@@ -3,13 +3,13 @@
 -- Lists           two sets of serials: the includes and the excludes of a delta, or of a call
 -- no_lists        no serial in either
 -- Delta           what a set asks of a delta: its predecessor and its lists. A table has them newest first, so the
---                    first one's serial is their number
+--                 first one's serial is their number
 -- Marked          which serials are marked, in (true) or out (false)
 -- marks l         the marks that lists make
 -- or_else a b     the mark a, or b where a is none
 -- marked_or a b   a serial with the mark a is in or out as marked, and as b where it has none
 -- members ds v m  from the newest serial down, with the marks m: a serial without a mark is in if it is v, the version
---                    or what was reached from it by predecessors; one that is in marks those of its lists that have no mark
+--                 or what was reached from it by predecessors; one that is in marks those of its lists that have no mark
 -- set_of ds v l   the set for the version v with a call's lists
 use Rattle.std.specs.Prelude.{ℕ, ◌+◌, Bool, true, false, cond, List, [], ◌∷◌, length, Some, None, Option, ◌==◌}
 use Rattle.sets.specs.Bits.{Serials, no_serials}
