@@ -6,6 +6,9 @@
 Each line of words.txt beside this script has a name and its new spelling. A name is replaced wherever it stands as a whole
 word in the .antt and .rt files of crates/; one with a dash not behind a dot, where it would be a name of Rattle's. Then
 the legends at the head of the files in specs/ are set in columns again. Functions of src/, strings and inputs stay as they are.
+
+It was run once and is kept as a record. Some names that it turned are the library's too and were put back by hand (docs/PORT.md),
+so it is not for the tree as it stands since then.
 """
 
 import os

@@ -1,13 +1,13 @@
 -- What a call asks for: a version with lists. Assumes nothing.
 --
--- lists_of r          the includes and excludes of the request r; serial n is bit n of a mask
--- is_bad top l k      the serial k is listed and is 0, above `top`, or in both lists
--- least_from p k n    the smallest of the n numbers from k on that passes p
--- first_bad top l     the smallest bad serial of the lists
--- list_refusal top l  15 with that serial
--- request_refusal es r the refusal of a request: 14 where no delta has the SID, then 15
--- version_of es s     the serial of the delta of the SID s; 0 for none
--- request_set es r    the set that a request asks for
+-- lists_of r            the includes and excludes of the request r; serial n is bit n of a mask
+-- is_bad top l k        the serial k is listed and is 0, above `top`, or in both lists
+-- least_from p k n      the smallest of the n numbers from k on that passes p
+-- first_bad top l       the smallest bad serial of the lists
+-- list_refusal top l    15 with that serial
+-- request_refusal es r  the refusal of a request: 14 where no delta has the SID, then 15
+-- version_of es s       the serial of the delta of the SID s; 0 for none
+-- request_set es r      the set that a request asks for
 use Rattle.std.specs.Prelude.{ℕ, zero, suc, ◌+◌, Bool, cond, ◌&&◌, ◌||◌, List, length, Some, None, Option, ◌==◌, nat_lt}
 use Rattle.std.specs.Option.{unwrap_or}
 use Rattle.lines.specs.declared.fault.Cause.TheVariants.{NoSuchVersion, ListedSerial}

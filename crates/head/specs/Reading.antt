@@ -1,18 +1,18 @@
 -- What the readers of single records answer. Assumes nothing.
 --
--- rest ls es t p                  what the records of ls from place p on come to at the turn t, after the entries es
--- record_at ls p                  the length of the record at p
--- demand f ls p                   the record at p, of which only the form f is judged
--- delta_at ls p                   what the delta record at p says
--- set_at p r                      the set in r and the place after p, or the fault at p
--- list_in own other p o the same of the list in o; the empty set and the place p itself where there is none
+-- rest ls es t p               what the records of ls from place p on come to at the turn t, after the entries es
+-- record_at ls p               the length of the record at p
+-- demand f ls p                the record at p, of which only the form f is judged
+-- delta_at ls p                what the delta record at p says
+-- set_at p r                   the set in r and the place after p, or the fault at p
+-- list_in own other p o        the same of the list in o; the empty set and the place p itself where there is none
 -- list_at mark own other ls p  the set of the list record at p, with the place after it; the empty set and the same place
 --                              where another record stands
--- follows before n                the serial n may follow `before`, where 64 stands for none
--- sound_after es b d              the content of a delta record after the entries es, of which the last has the serial b
--- Fills ls p d e r                the records of an entry from p on, after its delta record d: e is filled and read up to the place
---                                 before the one in r, or r is the fault
--- Ends ls p r                     the last marks from p on: the head ends at the place in r, or r is the fault
+-- follows before n             the serial n may follow `before`, where 64 stands for none
+-- sound_after es b d           the content of a delta record after the entries es, of which the last has the serial b
+-- Fills ls p d e r             the records of an entry from p on, after its delta record d: e is filled and read up to the place
+--                              before the one in r, or r is the fault
+-- Ends ls p r                  the last marks from p on: the head ends at the place in r, or r is the fault
 use Rattle.std.specs.Prelude.{◌≡◌, ℕ, ◌+◌, ◌-◌, Bool, cond, not, ◌&&◌, List, [], ◌∷◌, ◌++◌, length, drop, Some, None, Ok, Err, Option, Result, ◌==◌, nat_le}
 use Rattle.std.specs.Option.{ok_or}
 use Rattle.lines.specs.declared.fault.Cause.{Cause}

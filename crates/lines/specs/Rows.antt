@@ -4,7 +4,7 @@
 -- before b rs       the rows rs with one byte more before the first
 -- rows bs           the rows of the bytes bs
 -- wrong n r         the row r cannot be line n
--- first_wrong n rs the number of the first wrong row, counted from n; 0 for none
+-- first_wrong n rs  the number of the first wrong row, counted from n; 0 for none
 -- wrong_row bs      the number of the first row that is over 240 bytes, is row 4,001 or lacks its LF; 0 for none
 -- row_len bs        how many bytes stand before the first LF
 -- lines_in bs       the rows' bytes: the lines where no row is wrong

@@ -6,18 +6,18 @@ mod report;
 mod sentences;
 mod stores;
 
-use anyhow::anyhow;
 use report::print_refusal;
 use sentences::USAGE;
 use std::env;
 use std::io::Read;
+use std::process::ExitCode;
 use stores::keep_in_both;
 
-fn main(rt: HostRuntime) -> anyhow::Result<()> {
+fn main(rt: HostRuntime) -> anyhow::Result<ExitCode> {
     if run(&rt)? {
-        return Ok(());
+        return Ok(ExitCode::SUCCESS);
     }
-    Err(anyhow!("refused"))
+    Ok(ExitCode::FAILURE)
 }
 
 // Keeps the table on standard input; false where it is refused, or where the command has words.

@@ -1,10 +1,10 @@
 -- The marks that a queue holds. Assumes nothing.
 --
--- number m      the serial of a mark
--- kind m n      a mark of this kind with the serial n
--- mark_of s     the mark in a slot: the slot's key is its serial, and the element says its kind
--- open_marks q  the marks in a queue, by rising serial
--- Bounded top ms the serials are from 1 to `top`
+-- number m        the serial of a mark
+-- kind m n        a mark of this kind with the serial n
+-- mark_of s       the mark in a slot: the slot's key is its serial, and the element says its kind
+-- open_marks q    the marks in a queue, by rising serial
+-- Bounded top ms  the serials are from 1 to `top`
 use Rattle.std.specs.Prelude.{ℕ, ◌≤◌, List, map}
 use Rattle.std.specs.List.{AllByRecursion}
 use Rattle.records.specs.BodyRecords as body
