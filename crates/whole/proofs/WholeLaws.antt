@@ -16,14 +16,6 @@ pub total-is : (ls : List Line) → total ls ≡ sum_by length ls
 total-is [] = refl
 total-is (l ∷ ls) = ap (λ k. length l + k) (total-is ls) ∙ sym (sum_by-cons length l ls)
 
-pub total-more : (ls : List Line) (i : ℕ) → i < length ls → total (take (i + 1) ls) ≡ total (take i ls) + length (line_of ls (i + 1))
-total-more ls i h =
-    let back : i ≡ i + 1 - 1 = omega arith in
-    total-is (take (i + 1) ls) ∙ sum_by_more length ls i [] h ∙ ap (λ k. k + length (get_or ls i [])) (sym (total-is (take i ls))) ∙ ap (λ j. total (take i ls) + length (get_or ls j [])) back
-
-pub total-front : (ls : List Line) (i : ℕ) → total (take i ls) ≤ total ls
-total-front ls i = let a = total-is ls in let b = total-is (take i ls) in omega (arith, sum_by-take-le length ls i)
-
 pub total-most : (ls : List Line) → Lawful ls → total ls ≤ 960000
 total-most ls ok =
     let short = All-weaker (λ l. is_line l ≡ true) (λ l. length l ≤ 240) line_short ls ok.1 in
