@@ -2,13 +2,11 @@
 use Rattle.std.proofs.Common.{◌≡◌, ℕ, ◌+◌, ◌-◌, ◌<◌, ◌≤◌, true, false, not, eqb, leb, List, [], ◌∷◌, ◌++◌, map, length, get_or, take, drop, set, sym, refl, ap, ◌∙◌, append_assoc, arith, length-append}
 use Rattle.std.specs.List.{AllByRecursion}
 use borrow.Rule.Slice.PartMut.{put_mid}
-use Rattle.std.proofs.lemmas.List.{take_at, take_more, drop_more, drop-drop, length-take, set_at}
-use Rattle.std.proofs.lemmas.Slice.{drop-append-drop}
+use Rattle.std.proofs.lemmas.List.{drop_more, drop-drop, length-take, set_at}
 use Rattle.std.proofs.lemmas.Bool.{and_parts, not-true, leb-true, le-ltb, ne_eqb, eq-eqb, or_from, cond-true, cond-false}
-use Rattle.lines.specs.Lines.{Line, no_lf, is_line, Lawful, line_of, total, fronted}
+use Rattle.lines.specs.Lines.{Line, no_lf, is_line, Lawful, total}
 use Rattle.lines.specs.Rows.{row, rows, before, wrong, first_wrong, wrong_row, lines_in, held}
 use Rattle.whole.specs.Whole.{text_of}
-use Rattle.whole.proofs.WholeLaws.{total-more, total-front}
 
 -- a line and its LF are the first row
 row_of : (l rest : List ℕ) → no_lf l ≡ true → rows (l ++ (10 ∷ rest)) ≡ row l true ∷ rows rest

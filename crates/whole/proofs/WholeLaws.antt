@@ -1,14 +1,14 @@
 -- Laws of the lines of a whole source: their bytes, and their room in a store. Assumes nothing.
-use Rattle.std.proofs.Common.{◌≡◌, ℕ, suc, ◌+◌, ◌-◌, ◌<◌, ◌≤◌, true, false, not, ◌&&◌, eqb, leb, min, List, [], ◌∷◌, ◌++◌, length, length-append, get_or-append-add, get_or, take, Some, None, sum_by, sym, refl, ap, ◌∙◌, ⊎_elim, arith}
+use Rattle.std.proofs.Common.{◌≡◌, ℕ, suc, ◌+◌, ◌<◌, ◌≤◌, true, false, not, ◌&&◌, eqb, leb, min, List, [], ◌∷◌, ◌++◌, length, length-append, get_or-append-add, get_or, take, Some, None, sum_by, sym, refl, ap, ◌∙◌, ⊎_elim, arith}
 use Rattle.std.specs.Str.{bytes_eq}
 use Rattle.std.specs.List.{position_or_len, zip}
 use Rattle.std.proofs.lemmas.List.{length-take}
 use Rattle.std.proofs.lemmas.Slice.Eq.{bytes_eq-Decides}
 use Rattle.std.proofs.lemmas.Bool.{cases_Bool, cond-true, cond-false, and_parts, and_from, leb-true, lt-ltb, le-leb, not_from_true}
-use Rattle.std.proofs.lemmas.List.Sums.{sum_by-cons, sum_by_more, sum_by-take-le}
+use Rattle.std.proofs.lemmas.List.Sums.{sum_by-cons}
 use Rattle.std.proofs.ByRecursion.{sum_by_le, All-get_or, All-weaker}
 use Rattle.lines.specs.Faults.{accepted}
-use Rattle.lines.specs.Lines.{Line, is_line, Lawful, line_of, total, add_refusal}
+use Rattle.lines.specs.Lines.{Line, is_line, Lawful, total, add_refusal}
 use Rattle.whole.specs.Whole.{differ_from, fits}
 use Rattle.lines.proofs.LineLaws.{line_short, check_passes}
 
