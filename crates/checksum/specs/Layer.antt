@@ -4,16 +4,19 @@
 -- summed ls           the first line holds the sum of the others
 -- layer_health h ls   the health: that below or, where that is 0, 4 unless the first line holds the sum
 -- above d             the draft: absent unless the draft below has a first line of 7 bytes, else that without it
--- is_open d           there is a draft above
--- Glanced ls n buf r  what a look at line n finds: r is its length and the buffer begins with it, or it is not there
+-- number_below n      the number of line n below: n + 1; none where n is 0, or 4,000 or more
 -- limits_above lim    the limits: one line and 7 bytes less, both 0 where that is impossible
 -- rest_lawful         the lines are a line source's where those below are
 -- above_lawful        the draft is a line store's where that below is
+-- draft_lawful        the lines of a draft are a line source's where the draft is a line store's
 -- limits_lawful       the limits are a line store's where those below are
-use Rattle.std.specs.Prelude.{◌≡◌, ℕ, ◌-◌, ◌<◌, ◌≤◌, Bool, true, false, cond, ◌&&◌, List, [], ◌∷◌, length, take, drop, is_some, Some, None, Option, ◌==◌, nat_le}
+use Rattle.std.specs.Prelude.{ℕ, ◌+◌, ◌-◌, Bool, true, false, cond, ◌&&◌, ◌||◌, List, [], ◌∷◌, length, drop, Some, None, Option, Result, ◌==◌, nat_le}
 use Rattle.std.proofs.Common.{arith}
 use Rattle.std.specs.Str.{bytes_eq}
-use Rattle.lines.specs.Lines.{Line, line_of, Lawful, LawfulDraft, LawfulLimits}
+use Rattle.lines.specs.declared.fault.Fault.{Fault}
+use Rattle.lines.specs.declared.fault.Cause.TheVariants.{NoSuchLine}
+use Rattle.lines.specs.Faults.{accepted, plain, when, verdict}
+use Rattle.lines.specs.Lines.{Line, draft_lines, Lawful, LawfulDraft, LawfulLimits}
 use Rattle.checksum.specs.Sum.{sum_of, marked}
 
 abbrev pub rest : List Line → List Line
@@ -31,12 +34,8 @@ above None = None
 above (Some []) = None
 above (Some (l ∷ ls)) = cond (length l == 7) (Some ls) None
 
-abbrev pub is_open : Option (List Line) → Bool
-is_open d = is_some (above d)
-
-abbrev pub Glanced : List Line → ℕ → List ℕ → Option ℕ → Type 0
-Glanced ls n buf None = length ls < n
-Glanced ls n buf (Some len) = (n ≤ length ls) × ((len ≤ length buf) × (take len buf ≡ line_of ls n))
+abbrev pub number_below : ℕ → Result ℕ Fault
+number_below n = verdict (when (n == 0 || nat_le 4000 n) (plain NoSuchLine) accepted) (n + 1)
 
 abbrev pub limits_above : ℕ × ℕ → ℕ × ℕ
 limits_above lim = cond (nat_le 1 lim.0 && nat_le 7 lim.1) (lim.0 - 1, lim.1 - 7) (0, 0)
@@ -55,3 +54,7 @@ above_lawful (Some (l ∷ ls)) h =
 pub limits_lawful : (lim : ℕ × ℕ) → LawfulLimits lim → LawfulLimits (limits_above lim)
 limits_lawful lim h =
     elim (nat_le 1 lim.0 && nat_le 7 lim.1) as (λ b. LawfulLimits (cond b (lim.0 - 1, lim.1 - 7) (0, 0))) [ true ↦ (omega (arith, h.0), omega (arith, h.1)) | false ↦ (omega arith, omega arith) ]
+
+pub draft_lawful : (d : Option (List Line)) → LawfulDraft d → Lawful (draft_lines d)
+draft_lawful None h = (omega arith, tt)
+draft_lawful (Some d) h = h

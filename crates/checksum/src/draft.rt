@@ -1,45 +1,63 @@
-ghost use Rattle.std.specs.Prelude.{◌≡◌, ◌≤◌, [], ◌∷◌, length, Some, None};
+ghost use Rattle.std.specs.Prelude.{◌≡◌, ◌≤◌, [], ◌∷◌, length, Some, None, nat_le};
 ghost use Rattle.lines.specs.Faults.{verdict, left};
 ghost use Rattle.lines.specs.Lines.{draft_lines, begin_refusal, keep_refusal};
 ghost use Rattle.lines.specs.Stores.{meaning, drafting, rewritten};
 ghost use Rattle.checksum.specs.Sum.{sum_of, marked};
-ghost use Rattle.checksum.specs.Layer.{rest, layer_health, above, is_open, Glanced, limits_above};
+ghost use Rattle.checksum.specs.Layer.{rest, layer_health, above, draft_lawful, limits_above};
 
-use crate::sum::{SUM_LENGTH, ZERO_LINE, add_line, sum_line};
+use crate::sum::{SUM_LENGTH, ZERO_LINE, sum_after, sum_line};
 use lines::fault::{Cause, Fault};
-use lines::line::LONGEST;
+use lines::line::{LONGEST, fetch};
 use lines::source::{LineSource, MOST_LINES};
 use lines::store::LineStore;
 
-// Looks at draft line n below; the length, if there is such a line.
-fn glance<S: LineStore>(below: &S, n: usize, buf: &mut [u8]) -> Option<usize>
-    requires { (1 ≤ n) × (240 ≤ length buf.old) }
-    ensures { Glanced (draft_lines (S.LineStore.draft below.now)) n buf.new result }
+// Has the draft a line n, counted from 1?
+fn has_line<S: LineStore>(store: &S, n: usize) -> bool
+    requires { 1 ≤ n }
+    ensures { result ≡ nat_le n (length (draft_lines (S.LineStore.draft store.now))) }
 {
-    below.look(n, buf).ok()
+    store.look(n, &mut [0; LONGEST]).is_ok()
 }
 
-// Has the draft below a first line with the length of one that holds a sum?
-pub(crate) fn is_open<S: LineStore>(below: &S) -> bool
-    ensures { result ≡ is_open (S.LineStore.draft below.now) }
-{
-    let mut buf = [0u8; LONGEST];
-    glance(below, 1, &mut buf).unwrap_or(0) == SUM_LENGTH
+// The draft of a store, seen as a source: no lines where it is absent.
+#[derive(Drop)]
+struct Draft<'a, S> {
+    of: &'a S,
 }
 
-// The sum of the draft's lines below without the first.
-fn sum_draft<S: LineStore>(below: &S) -> u16
-    ensures { result ≡ sum_of (rest (draft_lines (S.LineStore.draft below.now))) }
-{
-    let mut buf = [0u8; LONGEST];
-    let mut total = 0;
-    for n in 1..MOST_LINES {
-        let Some(len) = glance(below, n + 1, &mut buf) else {
-            return total;
-        };
-        total = add_line(total, &buf[..len]);
+impl<'a, S: LineStore> LineSource for Draft<'a, S> {
+    ghost lines = { λ d. draft_lines (S.LineStore.draft d.of.now) };
+
+    ghost health = { λ _. 0 };
+
+    ghost lawful = { λ d. draft_lawful (S.LineStore.draft d.of.now) (S.LineStore.lawful_draft d.of.now) };
+
+    fn count(&self) -> usize {
+        (1..=MOST_LINES)
+            .take_while(|n| has_line(self.of, *n))
+            .count()
     }
-    total
+
+    fn health(&self) -> u8 {
+        0
+    }
+
+    fn read(&self, n: usize, buf: &mut [u8]) -> Result<usize, Fault> {
+        match self.of.look(n, buf) {
+            Err(fault) if fault.cause == Cause::NoDraft => Err(Fault::plain(Cause::NoSuchLine)),
+            answer => answer,
+        }
+    }
+}
+
+// Refuses where the draft below has no first line of the length of one that holds a sum.
+pub(crate) fn need_draft<S: LineStore>(below: &S) -> Result<(), Fault>
+    ensures { result ≡ verdict (keep_refusal (above (S.LineStore.draft below.now))) tt }
+{
+    match fetch(&Draft { of: below }, 1) {
+        Some(line) if line.as_slice().len() == SUM_LENGTH => Ok(()),
+        _ => Err(Fault::plain(Cause::NoDraft)),
+    }
 }
 
 // Begins a draft below, and puts a first line into it that keeps the place of the sum.
@@ -70,10 +88,8 @@ pub(crate) fn keep_below<S: LineStore>(below: &mut S) -> Result<(), Fault>
     ensures bottom { S.LineStore.bottom below.new ≡ S.LineStore.bottom below.old }
     ensures below { meaning S.LineSource S.LineStore.own below.new ≡ left (keep_refusal (above (S.LineStore.draft below.old))) (rewritten (marked (sum_of (draft_lines (above (S.LineStore.draft below.old)))) ∷ draft_lines (above (S.LineStore.draft below.old))) (meaning S.LineSource S.LineStore.own below.old)) (meaning S.LineSource S.LineStore.own below.old) }
 {
-    if !is_open(below) {
-        return Err(Fault::plain(Cause::NoDraft));
-    }
-    let line = sum_line(sum_draft(below));
+    need_draft(below)?;
+    let line = sum_line(sum_after(&Draft { of: below }, 1));
     below.patch(1, &line)?;
     below.keep()
 }

@@ -3,10 +3,10 @@ ghost use Rattle.lines.specs.Faults.{verdict, left};
 ghost use Rattle.lines.specs.Lines.{draft_lines, begin_refusal, add_refusal, patch_refusal, keep_refusal};
 ghost use Rattle.lines.specs.Stores.{drafting, rewritten};
 ghost use Rattle.checksum.specs.Sum.{sum_of, marked};
-ghost use Rattle.checksum.specs.Layer.{rest_lawful, above_lawful, limits_lawful};
+ghost use Rattle.checksum.specs.Layer.{number_below, rest_lawful, above_lawful, limits_lawful};
 ghost use Rattle.checksum.specs.Stores.{layer_lines, layer_health_of, layer_draft, layer_limits, layer_bottom, below_of};
 
-use crate::draft::{begin_below, is_open, keep_below};
+use crate::draft::{begin_below, keep_below, need_draft};
 use crate::sum::{SUM_LENGTH, holds_sum};
 use lines::fault::{Cause, Fault};
 use lines::line::is_line;
@@ -17,8 +17,7 @@ use lines::store::LineStore;
 const KIND: u8 = 4;
 
 // A layer over any source, and a store over any store. Its lines are those below without the first, which holds
-// their sum. Line n is line n + 1 below, so that there are fewer than MOST_LINES: `read`, `look` and `patch` refuse
-// 0, MOST_LINES and more before they ask below.
+// their sum.
 #[derive(Drop)]
 pub struct Checksum<S> {
     below: S,
@@ -47,6 +46,16 @@ impl<S> Checksum<S> {
     }
 }
 
+// The number below of line n. It is n + 1, so that n is lower than MOST_LINES; else no line has it.
+fn number_below(n: usize) -> Result<usize, Fault>
+    ensures { result ≡ number_below n }
+{
+    if n == 0 || n >= MOST_LINES {
+        return Err(Fault::plain(Cause::NoSuchLine));
+    }
+    Ok(n + 1)
+}
+
 impl<S: LineSource> LineSource for Checksum<S> {
     ghost lines = { λ c. layer_lines S.LineSource c };
 
@@ -67,10 +76,7 @@ impl<S: LineSource> LineSource for Checksum<S> {
     }
 
     fn read(&self, n: usize, buf: &mut [u8]) -> Result<usize, Fault> {
-        if n == 0 || n >= MOST_LINES {
-            return Err(Fault::plain(Cause::NoSuchLine));
-        }
-        self.below.read(n + 1, buf)
+        self.below.read(number_below(n)?, buf)
     }
 }
 
@@ -120,20 +126,13 @@ impl<S: LineStore> LineStore for Checksum<S> {
         ensures bottom { layer_bottom S.LineStore.own self.new ≡ layer_bottom S.LineStore.own self.old }
         ensures below { below_of S.LineSource S.LineStore.own self.new ≡ left (add_refusal (layer_draft S.LineStore.own self.old) (layer_limits S.LineStore.own self.old) line.now) (drafting (draft_lines (below_of S.LineSource S.LineStore.own self.old).draft ++ (line.now ∷ [])) (below_of S.LineSource S.LineStore.own self.old)) (below_of S.LineSource S.LineStore.own self.old) }
     {
-        if !is_open(&self.below) {
-            return Err(Fault::plain(Cause::NoDraft));
-        }
+        need_draft(&self.below)?;
         self.below.add(line)
     }
 
     fn look(&self, n: usize, buf: &mut [u8]) -> Result<usize, Fault> {
-        if !is_open(&self.below) {
-            return Err(Fault::plain(Cause::NoDraft));
-        }
-        if n == 0 || n >= MOST_LINES {
-            return Err(Fault::plain(Cause::NoSuchLine));
-        }
-        self.below.look(n + 1, buf)
+        need_draft(&self.below)?;
+        self.below.look(number_below(n)?, buf)
     }
 
     fn patch(&mut self, n: usize, line: &[u8]) -> Result<(), Fault>
@@ -145,16 +144,11 @@ impl<S: LineStore> LineStore for Checksum<S> {
         ensures bottom { layer_bottom S.LineStore.own self.new ≡ layer_bottom S.LineStore.own self.old }
         ensures below { below_of S.LineSource S.LineStore.own self.new ≡ left (patch_refusal (layer_draft S.LineStore.own self.old) n line.now) (drafting (slice_set (draft_lines (below_of S.LineSource S.LineStore.own self.old).draft) n line.now) (below_of S.LineSource S.LineStore.own self.old)) (below_of S.LineSource S.LineStore.own self.old) }
     {
-        if !is_open(&self.below) {
-            return Err(Fault::plain(Cause::NoDraft));
-        }
+        need_draft(&self.below)?;
         if !is_line(line) {
             return Err(Fault::plain(Cause::NotALine));
         }
-        if n == 0 || n >= MOST_LINES {
-            return Err(Fault::plain(Cause::NoSuchLine));
-        }
-        self.below.patch(n + 1, line)
+        self.below.patch(number_below(n)?, line)
     }
 
     fn keep(&mut self) -> Result<(), Fault>

@@ -1,9 +1,10 @@
-ghost use Rattle.std.specs.Prelude.{◌≡◌, ◌+◌, ◌%◌, drop, sum};
+ghost use Rattle.std.specs.Prelude.{◌≡◌, ◌+◌, ◌/◌, ◌%◌, ◌≤◌, drop, sum};
 ghost use Rattle.checksum.specs.Sum.{sum_of, marked, KnownSums};
 ghost use Rattle.checksum.specs.Layer.{summed};
 ghost use Rattle.checksum.specs.Change.{ChangeSeen};
 
-use lines::line::{LONGEST, fetch};
+use lines::each::Lines;
+use lines::line::fetch;
 use lines::source::LineSource;
 
 // The length of the line that holds a sum.
@@ -17,13 +18,24 @@ pub fn sum_line(total: u16) -> [u8; SUM_LENGTH]
     ensures line { result ≡ marked total }
     ensures known { KnownSums }
 {
-    let mut line = ZERO_LINE;
-    line[2] += (total / 10000 % 10) as u8;
-    line[3] += (total / 1000 % 10) as u8;
-    line[4] += (total / 100 % 10) as u8;
-    line[5] += (total / 10 % 10) as u8;
-    line[6] += (total % 10) as u8;
-    line
+    let [mark, letter, ..] = ZERO_LINE;
+    [
+        mark,
+        letter,
+        digit(total, 10000),
+        digit(total, 1000),
+        digit(total, 100),
+        digit(total, 10),
+        digit(total, 1),
+    ]
+}
+
+// The digit of a number that counts this unit.
+fn digit(n: u16, unit: u16) -> u8
+    requires { 1 ≤ unit }
+    ensures { result ≡ 48 + n / unit % 10 }
+{
+    b'0' + (n / unit % 10) as u8
 }
 
 // The sum of all lines of a source: every byte of the lines, and 10 for each line, modulo 65,536.
@@ -39,32 +51,21 @@ pub fn holds_sum<S: LineSource>(source: &S) -> bool
     ensures seen { ChangeSeen }
 {
     let want = sum_line(sum_after(source, 1));
-    let mut buf = [0u8; LONGEST];
-    let len = fetch(source, 1, &mut buf);
-    buf[..len] == want[..]
+    fetch(source, 1).is_some_and(|line| line.as_slice() == want.as_slice())
 }
 
 // The sum of the lines after the first `skipped` ones.
-fn sum_after<S: LineSource>(source: &S, skipped: usize) -> u16
+pub(crate) fn sum_after<S: LineSource>(source: &S, skipped: usize) -> u16
     ensures { result ≡ sum_of (drop skipped (S.LineSource.lines source.now)) }
 {
-    let mut buf = [0u8; LONGEST];
-    let mut total = 0;
-    let count = source.count();
-    for n in skipped..count {
-        let len = fetch(source, n + 1, &mut buf);
-        total = add_line(total, &buf[..len]);
-    }
-    total
+    Lines::after(source, skipped).fold(0, |total, line| add_line(total, line.as_slice()))
 }
 
 // The sum so far with one line more.
-pub(crate) fn add_line(before: u16, line: &[u8]) -> u16
+fn add_line(before: u16, line: &[u8]) -> u16
     ensures { result ≡ (before + (sum line.now + 10)) % 65536 }
 {
-    let mut total = before;
-    for b in line {
-        total = total.wrapping_add(u16::from(*b));
-    }
-    total.wrapping_add(10)
+    line.iter()
+        .fold(before, |total, b| total.wrapping_add(u16::from(*b)))
+        .wrapping_add(10)
 }

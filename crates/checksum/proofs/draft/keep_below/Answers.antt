@@ -1,22 +1,33 @@
-use Rattle.std.proofs.Common.{◌≡◌, cond, List, ◌∷◌, length, Some, sym, ap, ◌∙◌}
+use Rattle.std.proofs.Common.{◌≡◌, cond, List, ◌∷◌, length, Some, Ok, Err, ℕ, arith, sym, ap, ◌∙◌}
 use Rattle.lines.specs.Faults.{verdict, left}
 use Rattle.lines.specs.Lines.{Line, is_line, draft_lines, keep_refusal}
 use Rattle.lines.specs.Stores.{Store, meaning, rewritten}
 use Rattle.checksum.specs.Sum.{sum_of, marked}
 use Rattle.checksum.specs.Layer.{rest, layer_health, above}
+use Rattle.lines.proofs.LineLaws.{accepted_ok}
 use Rattle.checksum.proofs.SumLaws.{marked_line, summed_marked}
-use Rattle.checksum.proofs.LayerLaws.{first_draft, rest_above, keep_above}
+use Rattle.checksum.proofs.LayerLaws.{draft_is_open, first_patch, first_draft, rest_above, keep_above}
 use Rattle.checksum.proofs.draft.keep_below.Goals as goal
+
+-- a sum's line always takes the place of another
+pub returns-in_err-patch : goal.returns-in_err-patch
+returns-in_err-patch g c =
+    let D = g.S.LineStore.draft c.args.below.now in
+    let yes = draft_is_open _ (accepted_ok (keep_refusal (above D)) tt _ c.in_ok-need_draft.ensures) in
+    let is = c.sum_line-line.ensures.line in
+    let never : Err c.in_err-patch.field-0.0 ≡ Ok tt = c.in_err-patch.ensures.answer ∙ ap (λ q. verdict q tt) (first_patch D yes c.sum_line-line.result (ap is_line is ∙ marked_line c.sum_after.result) (ap length is)) in
+    let z : ◌≡◌ {A = ℕ} 0 1 = cc in
+    absurd (omega arith)
 
 pub returns : goal.returns
 returns g c =
     let b = c.args.below.now in
     let D = g.S.LineStore.draft b in
     let d : List Line = draft_lines (above D) in
-    let yes = sym c.if-not-is_open.ensures in
+    let yes = draft_is_open _ (accepted_ok (keep_refusal (above D)) tt _ c.in_ok-need_draft.ensures) in
     let none = keep_above D yes in
     let l : Line = c.sum_line-line.result in
-    let is : l ≡ marked (sum_of d) = c.sum_line-line.ensures.line ∙ ap marked (c.sum_draft.ensures ∙ ap sum_of (rest_above D yes)) in
+    let is : l ≡ marked (sum_of d) = c.sum_line-line.ensures.line ∙ ap marked (c.sum_after.ensures ∙ ap sum_of (rest_above D yes)) in
     let mid : g.S.LineStore.draft c.patch.new.self ≡ Some (l ∷ d) = c.patch.ensures.draft ∙ first_draft D yes l (ap is_line is ∙ marked_line (sum_of d)) (ap length is) in
     let kept : g.S.LineSource.lines c.keep.new.self ≡ l ∷ d = c.keep.ensures.list ∙ ap (λ x. left (keep_refusal x) (draft_lines x) (g.S.LineSource.lines c.patch.new.self)) mid in
     let well : g.S.LineSource.health c.keep.new.self ≡ 0 = c.keep.ensures.health ∙ ap (λ x. left (keep_refusal x) 0 (g.S.LineSource.health c.patch.new.self)) mid in

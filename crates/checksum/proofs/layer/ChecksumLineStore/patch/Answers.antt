@@ -1,28 +1,16 @@
-use Rattle.std.proofs.Common.{◌≡◌, ◌+◌, ◌-◌, ◌≤◌, set, Some, sym, ap, ◌∙◌, arith}
-use Rattle.lines.specs.Faults.{verdict, left}
-use Rattle.lines.specs.Lines.{draft_lines, patch_refusal}
-use Rattle.lines.specs.Stores.{meaning}
-use Rattle.checksum.specs.Layer.{rest, layer_health, above, limits_above}
-use Rattle.checksum.proofs.LayerLaws.{patch_below, patch_left, drafted}
+use Rattle.std.proofs.Common.{◌-◌, set, Some, ap, ◌∙◌}
+use Rattle.lines.specs.Faults.{left}
+use Rattle.lines.specs.Lines.{draft_lines, patch_refusal, keep_refusal}
+use Rattle.lines.proofs.LineLaws.{accepted_ok}
+use Rattle.checksum.specs.Layer.{above}
+use Rattle.checksum.proofs.LayerLaws.{number_is, draft_is_open, patch_left}
 use Rattle.checksum.proofs.layer.ChecksumLineStore.patch.Goals as goal
 
-pub returns : goal.returns
-returns g c =
-    let b = c.args.self.now.below in
-    let D = g.S.LineStore.draft b in
+pub returns-clause-draft : goal.returns-clause-draft
+returns-clause-draft g c =
+    let D = g.S.LineStore.draft c.args.self.now.below in
     let n = c.args.n in
     let l = c.args.line.now in
-    let one : 1 ≤ n = omega arith in
-    let yes = sym c.if-not-is_open.ensures in
-    let e = c.patch.ensures in
-    let q = patch_below D yes n l one in
-    let back : n + 1 - 1 ≡ n = omega arith in
-    record {
-      answer = e.answer ∙ ap (λ k. verdict k tt) q;
-      draft = ap above e.draft ∙ patch_left D yes n l one;
-      list = ap rest e.list;
-      health = λ i. layer_health (e.health i) (e.list i);
-      limits = ap limits_above e.limits;
-      bottom = e.bottom;
-      below = drafted _ _ (set (draft_lines D) n l) (meaning g.S.LineSource g.S.LineStore b) _ q e.list e.health (e.draft ∙ ap (λ i. left (patch_refusal D (n + 1) l) (Some (set (draft_lines D) i l)) D) back) e.limits e.bottom;
-    }
+    let number = number_is n _ c.in_ok-number_below.ensures in
+    let yes = draft_is_open _ (accepted_ok (keep_refusal (above D)) tt _ c.in_ok-need_draft.ensures) in
+    ap above (c.patch.ensures.draft ∙ ap (λ k. left (patch_refusal D k l) (Some (set (draft_lines D) (k - 1) l)) D) number.1) ∙ patch_left D yes n l number.0
