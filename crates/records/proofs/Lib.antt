@@ -1,7 +1,5 @@
-pub mod Bytes
 pub mod ControlLaws
-pub mod Cuts
 pub mod Digits
-pub mod ListLaws
+pub mod Cuts
 pub mod SidLaws
-pub mod WordLaws
+pub mod ListLaws
