@@ -1,5 +1,3 @@
-pub mod ControlLaws
-pub mod Digits
 pub mod Cuts
 pub mod SidLaws
 pub mod ListLaws

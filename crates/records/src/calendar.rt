@@ -39,7 +39,7 @@ fn read_two(a: u8, b: u8) -> Option<u8>
     Some((a - b'0') * 10 + (b - b'0'))
 }
 
-// Three numbers of two digits, joined by a mark.
+// Three numbers of two digits, joined by a mark. They stay a tuple: a date and a time name them differently.
 pub(crate) fn read_triple(word: &[u8], mark: u8) -> Option<(u8, u8, u8)>
     ensures { result ≡ triple mark word.now }
 {

@@ -4,7 +4,7 @@ ghost use Rattle.records.specs.Numerals.{reads, numeral, serial_number, serial_u
 // The most digits of a serial.
 pub(crate) const SERIAL_DIGITS: usize = 5;
 
-// The number that up to five digits write.
+// The number that up to five digits write. A `for`, since a fold's closure would know no bound of n and had to check each sum.
 fn read_digits(word: &[u8]) -> Option<u32>
     requires { length word.now ≤ 5 }
     ensures value { result ≡ reads 0 word.now }

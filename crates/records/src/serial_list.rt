@@ -18,6 +18,7 @@ pub fn read_serials(rest: &[u8], own: u8, other: SerialSet) -> Result<SerialSet,
     ensures { result ≡ serial_list own other rest.now }
 {
     let mut last = 0;
+    // None once a serial is not allowed; the words after it are read for their form alone.
     let mut list = Some(SerialSet::empty());
     for word in rest.split(|b| *b == b' ') {
         let n = read_serial_number(word).ok_or(Cause::HeadForm)?;

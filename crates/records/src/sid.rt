@@ -3,7 +3,7 @@ ghost use Rattle.records.specs.Sids.{part, sid};
 
 use crate::numeral::read_numeral;
 
-// A SID; an absent part is 0.
+// A SID. By the project's rule it is four numbers, with 0 for an absent part.
 #[derive(Clone, Copy, Debug, PartialEq, Eq)]
 pub struct Sid {
     pub release: u16,
