@@ -5,9 +5,9 @@ use Rattle.std.specs.Option.{option_map, ok_or}
 use Rattle.lines.specs.declared.fault.Cause.{Cause}
 use Rattle.lines.specs.declared.fault.Cause.TheVariants.{HeadForm, HeadContent}
 use Rattle.sets.specs.declared.set.SerialSet.{SerialSet}
-use Rattle.sets.specs.Serials.{unlisted, with_serial, gathered}
+use Rattle.sets.specs.Serials.{with_serial, gathered}
 use Rattle.records.specs.Numerals.{and_then, serial_number}
-use Rattle.records.specs.SerialLists.{numbers, allowed, all_allowed, worth}
+use Rattle.records.specs.SerialLists.{numbers, allowed, all_allowed}
 
 -- what a list is worth where the numbers in o are still to come, after `last`; `list` has the set of those before, or none once one was not allowed
 abbrev pub judged : ℕ → Option SerialSet → ℕ → SerialSet → Option (List ℕ) → Result SerialSet Cause
@@ -16,10 +16,6 @@ judged last None own other (Some ns) = Err HeadContent
 judged last (Some set) own other (Some ns) = cond (all_allowed last own other ns) (Ok (gathered set ns)) (Err HeadContent)
 
 module _ (own : ℕ) (other : SerialSet) where
-  pub start : (o : Option (List ℕ)) → judged 0 (Some unlisted) own other o ≡ worth own other o
-  start None = refl
-  start (Some ns) = refl
-
   pub finish : (last : ℕ) (list : Option SerialSet) → judged last list own other (numbers []) ≡ ok_or list HeadContent
   finish last None = refl
   finish last (Some set) = refl

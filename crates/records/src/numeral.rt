@@ -34,6 +34,7 @@ pub(crate) fn read_numeral(word: &[u8], most: usize) -> Option<u32>
 }
 
 // The serial that a word writes, whether a delta has it or not.
+#[tactic(auto, unfolding(crate::specs::Numerals::serial_number))]
 pub(crate) fn read_serial_number(word: &[u8]) -> Option<u32>
     ensures value { result ≡ serial_number word.now }
     ensures small { IfSome result (λ n. n < 100000) }

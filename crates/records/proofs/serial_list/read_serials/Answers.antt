@@ -6,13 +6,8 @@ use Rattle.records.specs.Numerals.{serial_number}
 use Rattle.records.specs.Pieces.{cut}
 use Rattle.records.specs.SerialLists.{numbers}
 use Rattle.records.proofs.Cuts.{next_piece, none_left}
-use Rattle.records.proofs.ListLaws.{judged, start, finish, read, taken, refused, passed}
+use Rattle.records.proofs.ListLaws.{judged, finish, read, taken, refused, passed}
 use Rattle.records.proofs.serial_list.read_serials.Goals as goal
-
-pub loop-word-init : goal.loop-word-init
-loop-word-init c =
-    let words = numbers (cut 32 c.args.rest.now) in
-    ap (λ s. judged 0 (Some s) c.args.own c.args.other words) c.empty.ensures.value ∙ start c.args.own c.args.other words
 
 pub loop-word-preserved-in-Some-list : goal.loop-word-preserved-in-Some-list
 loop-word-preserved-in-Some-list c =
