@@ -1,4 +1,4 @@
-ghost use Rattle.std.specs.Prelude.{◌≡◌, ◌+◌, ◌-◌, ◌<◌, ◌⊎◌, true, [], ◌∷◌, ◌++◌, map, length, Some, Ok, slice_set};
+ghost use Rattle.std.specs.Prelude.{◌≡◌, ◌+◌, ◌-◌, ◌<◌, ◌≤◌, ◌⊎◌, true, [], ◌∷◌, ◌++◌, map, length, Some, Ok, OnOk, slice_set};
 ghost use Rattle.std.specs.Result.{MatchResult};
 ghost use Rattle.lines.specs.declared.fault.Cause.TheVariants.{NoSuchLine};
 ghost use Rattle.lines.specs.Faults.{plain, verdict, left};
@@ -57,6 +57,7 @@ pub(crate) fn add_line<L: Layout>(sheet: &mut [u8], tally: Tally, line: &[u8]) -
     requires size { length sheet.old ≡ L.Layout.size tally.lines tally.bytes }
     requires line { is_line line.now ≡ true }
     ensures answer { result ≡ verdict (add_refusal (Some (L.Layout.lines tally.lines sheet.old tally.count)) (tally.lines, tally.bytes) line.now) tt }
+    ensures few { OnOk result (tally.count + 1 ≤ tally.lines) }
     ensures taken { MatchResult result (λ _. L.Layout.lines tally.lines sheet.new (tally.count + 1) ≡ L.Layout.lines tally.lines sheet.old tally.count ++ (line.now ∷ [])) (λ _. sheet.new ≡ sheet.old) }
     ensures layout { result ≡ Ok tt → L.Layout.laid tally.lines sheet.old (L.Layout.lines tally.lines sheet.old tally.count) → L.Layout.laid tally.lines sheet.new (L.Layout.lines tally.lines sheet.new (tally.count + 1)) }
 {

@@ -1,7 +1,7 @@
-ghost use Rattle.std.specs.Prelude.{◌≡◌, ◌-◌, true, false, [], ◌∷◌, ◌++◌, length, if◌then◌else◌, Some, None, MatchOption, MatchResult, slice_set};
+ghost use Rattle.std.specs.Prelude.{◌≡◌, ◌-◌, [], ◌∷◌, ◌++◌, length, if◌then◌else◌, Some, None, MatchResult, slice_set};
 ghost use Rattle.lines.specs.Faults.{verdict, left};
 ghost use Rattle.lines.specs.Lines.{draft_lines, begin_refusal, add_refusal, patch_refusal, keep_refusal};
-ghost use Rattle.blocks.specs.Blocks.{fits, stands, block_refusal, Begins, Tallied, Drafted, Draftless};
+ghost use Rattle.blocks.specs.Blocks.{fits, stands, block_refusal, Begins, Listed, Listless, Drafted, Draftless};
 ghost use Rattle.blocks.specs.Stores.{store_list, store_draft, store_limits, store_health, StoreLaid};
 ghost use Rattle.blocks.specs.BlockLaws.{list_lawful, draft_lawful, limits_lawful};
 
@@ -69,16 +69,15 @@ impl<'a, L: Layout> BlockStore<'a, L> {
         Self::fits(self.block.len(), self.at.lines, self.at.bytes) && self.at.within()
     }
 
-    // The numbers of the list's sheet, where the store stands.
-    fn listed(&self) -> Option<Tally>
-        ensures { MatchOption result (stands L.Layout.size self.now.block.now self.now.at ≡ false) (Tallied L.Layout.size self.now.block.now self.now.at self.now.at.count) }
+    // The numbers of the list's sheet, or the refusal of a read where the store does not stand: it has no lines then.
+    fn listed(&self) -> Result<Tally, Fault>
+        ensures { MatchResult result (λ t. Listed L.Layout.size self.now.block.now self.now.at t) (λ e. Listless L.Layout.size self.now.block.now self.now.at e) }
     {
         let Marks { lines, bytes, count, .. } = self.at;
-        if self.stands() {
-            Some(Tally { lines, bytes, count })
-        } else {
-            None
+        if !self.stands() {
+            return Err(Fault::plain(Cause::NoSuchLine));
         }
+        Ok(Tally { lines, bytes, count })
     }
 
     // The numbers of the draft's sheet, or the refusal of a call that needs a draft.
@@ -109,7 +108,7 @@ impl<'a, L: Layout> LineSource for BlockStore<'a, L> {
     }
 
     fn read(&self, n: usize, buf: &mut [u8]) -> Result<usize, Fault> {
-        let list = self.listed().ok_or(Fault::plain(Cause::NoSuchLine))?;
+        let list = self.listed()?;
         let half = self.at.list.range(L::size(list.lines, list.bytes));
         read_line::<L>(&self.block[half], list, n, buf)
     }
