@@ -93,75 +93,74 @@ stands_drafting size b m n r few =
     let fit = (and_parts (fits size m.lines m.bytes (length b)) (within m) r).0 in
     and_from (fits size m.lines m.bytes (length b)) (within (drafting m n)) fit (and_from _ _ (le-leb _ _ (standing size b m r).counted) (le-leb _ _ few))
 
--- a sheet as a call lends it: t has the limits of a store that stands, and the sheet of k bytes goes from a to z
-module _ (lines : Meaning) (size : Size) (b : List ℕ) (m : Marks) (t : Tally) (d : Tallied size b m t) (h g : Half) (half : h ≡ g) (k : ℕ) (is : k ≡ size t.lines t.bytes) (a z : ℕ) (from : a ≡ base k h) (to : z ≡ base k h + k) where
-  size_is : k ≡ size_of size m
-  size_is = is ∙ ap (λ n. size n t.bytes) d.lines ∙ ap (size m.lines) d.bytes
+-- a sheet as a call lends it: it goes from a to z, and t has the limits of the store, which stands
+pub record Lent (size : Size) (b : List ℕ) (m : Marks) (t : Tally) (g : Half) (a z : ℕ) : Type 0 where
+  pub tallied : Tallied size b m t
+  pub from : a ≡ base (size_of size m) g
+  pub to : z ≡ base (size_of size m) g + size_of size m
 
-  base_is : base k h ≡ base (size_of size m) g
-  base_is = ap (λ n. base n h) size_is ∙ ap (base (size_of size m)) half
+pub lent : {size : Size} {b : List ℕ} {m : Marks} {t : Tally} {h g : Half} {k a z : ℕ} → Tallied size b m t → h ≡ g → k ≡ size t.lines t.bytes → a ≡ base k h → z ≡ base k h + k → Lent size b m t g a z
+lent {size} {b} {m} {t} {h} {g} {k} d half is from to =
+    let long : k ≡ size_of size m = is ∙ ap (λ n. size n t.bytes) d.lines ∙ ap (size m.lines) d.bytes in
+    let at : base k h ≡ base (size_of size m) g = ap (λ n. base n h) long ∙ ap (base (size_of size m)) half in
+    record { tallied = d; from = from ∙ at; to = omega arith }
 
-  lent_from : a ≡ base (size_of size m) g
-  lent_from = from ∙ base_is
-
-  lent_to : z ≡ base (size_of size m) g + size_of size m
-  lent_to = let e = base_is in let f = size_is in omega arith
-
+module _ (lines : Meaning) {size : Size} {b : List ℕ} {m : Marks} {t : Tally} {g : Half} {a z : ℕ} (w : Lent size b m t g a z) where
   two : 2 * size_of size m ≤ length b
-  two = (standing size b m d.stood).sheets
+  two = (standing size b m w.tallied.stood).sheets
 
   lent_sheet : part b a z ≡ sheet_of (size_of size m) b g
-  lent_sheet = part_is b (size_of size m) g a z lent_from lent_to two
+  lent_sheet = part_is b (size_of size m) g a z w.from w.to two
 
   lent_lines : (s : List ℕ) (n : ℕ) → lines m.lines s n ≡ lines t.lines s n
-  lent_lines s n = ap (λ L. lines L s n) (sym d.lines)
+  lent_lines s n = ap (λ L. lines L s n) (sym w.tallied.lines)
 
   pub limits_lent : limits_of size b m ≡ (t.lines, t.bytes)
-  limits_lent = cond-true _ _ _ d.stood ∙ sym (ap (λ n. (n, t.bytes)) d.lines ∙ ap (λ n. (m.lines, n)) d.bytes)
+  limits_lent = cond-true _ _ _ w.tallied.stood ∙ sym (ap (λ n. (n, t.bytes)) w.tallied.lines ∙ ap (λ n. (m.lines, n)) w.tallied.bytes)
 
   pub list_lent : g ≡ m.list → t.count ≡ m.count → list_of lines size b m ≡ lines t.lines (part b a z) t.count
   list_lent e f =
-      list_at lines size b m d.stood ∙ ap (λ x. lines m.lines (sheet_of (size_of size m) b x) m.count) (sym e) ∙ ap (λ s. lines m.lines s m.count) (sym lent_sheet)
+      list_at lines size b m w.tallied.stood ∙ ap (λ x. lines m.lines (sheet_of (size_of size m) b x) m.count) (sym e) ∙ ap (λ s. lines m.lines s m.count) (sym lent_sheet)
       ∙ ap (lines m.lines (part b a z)) (sym f) ∙ lent_lines (part b a z) t.count
 
   -- the draft's sheet
   module _ (e : g ≡ other m.list) (f : m.draft ≡ Some t.count) where
     pub draft_lent : draft_of lines size b m ≡ Some (lines t.lines (part b a z) t.count)
     draft_lent =
-        draft_at lines size b m d.stood t.count f ∙ ap (λ x. Some (lines m.lines (sheet_of (size_of size m) b x) t.count)) (sym e)
+        draft_at lines size b m w.tallied.stood t.count f ∙ ap (λ x. Some (lines m.lines (sheet_of (size_of size m) b x) t.count)) (sym e)
         ∙ ap (λ s. Some (lines m.lines s t.count)) (sym lent_sheet) ∙ ap Some (lent_lines (part b a z) t.count)
 
     -- it is changed to y, and the draft has n lines
     module _ (y : List ℕ) (ly : length y ≡ length (part b a z)) (n : ℕ) (few : n ≤ t.lines) where
       stands_left : stands size (after b a z y) (drafting m n) ≡ true
       stands_left =
-          stands_drafting size (after b a z y) m n (ap (λ j. fits size m.lines m.bytes j && within m) (same_length b (size_of size m) g a z lent_from lent_to two y ly) ∙ d.stood) (subst (λ L. n ≤ L) d.lines few)
+          stands_drafting size (after b a z y) m n (ap (λ j. fits size m.lines m.bytes j && within m) (same_length b (size_of size m) g a z w.from w.to two y ly) ∙ w.tallied.stood) (subst (λ L. n ≤ L) w.tallied.lines few)
 
       list_sheet : sheet_of (size_of size m) (after b a z y) m.list ≡ sheet_of (size_of size m) b m.list
-      list_sheet = subst (λ x. sheet_of (size_of size m) (after b a z y) x ≡ sheet_of (size_of size m) b x) (ap other e ∙ other_twice m.list) (others b (size_of size m) g a z lent_from lent_to two y ly)
+      list_sheet = subst (λ x. sheet_of (size_of size m) (after b a z y) x ≡ sheet_of (size_of size m) b x) (ap other e ∙ other_twice m.list) (others b (size_of size m) g a z w.from w.to two y ly)
 
       draft-sheet : sheet_of (size_of size m) (after b a z y) (other m.list) ≡ y
-      draft-sheet = subst (λ x. sheet_of (size_of size m) (after b a z y) x ≡ y) e (own b (size_of size m) g a z lent_from lent_to two y ly)
+      draft-sheet = subst (λ x. sheet_of (size_of size m) (after b a z y) x ≡ y) e (own b (size_of size m) g a z w.from w.to two y ly)
 
       pub list_left : list_of lines size (after b a z y) (drafting m n) ≡ list_of lines size b m
-      list_left = list_at lines size (after b a z y) (drafting m n) stands_left ∙ ap (λ s. lines m.lines s m.count) list_sheet ∙ sym (list_at lines size b m d.stood)
+      list_left = list_at lines size (after b a z y) (drafting m n) stands_left ∙ ap (λ s. lines m.lines s m.count) list_sheet ∙ sym (list_at lines size b m w.tallied.stood)
 
       pub draft_left : draft_of lines size (after b a z y) (drafting m n) ≡ Some (lines t.lines y n)
       draft_left = draft_at lines size (after b a z y) (drafting m n) stands_left n refl ∙ ap (λ s. Some (lines m.lines s n)) draft-sheet ∙ ap Some (lent_lines y n)
 
       pub laid_left : (laid : Laid) → (laid t.lines (part b a z) (lines t.lines (part b a z) t.count) → laid t.lines y (lines t.lines y n)) → LaidOut laid lines size b m → LaidOut laid lines size (after b a z y) (drafting m n)
-      laid_left laid keeps w =
-          let old : laid t.lines (part b a z) (lines t.lines (part b a z) t.count) = subst (λ L. laid L (part b a z) (lines t.lines (part b a z) t.count)) (sym d.lines) (moved laid m.lines _ _ _ _ (ap (sheet_of (size_of size m) b) (sym e) ∙ sym lent_sheet) (ap draft_lines draft_lent) w.draft) in
+      laid_left laid keeps o =
+          let old : laid t.lines (part b a z) (lines t.lines (part b a z) t.count) = subst (λ L. laid L (part b a z) (lines t.lines (part b a z) t.count)) (sym w.tallied.lines) (moved laid m.lines _ _ _ _ (ap (sheet_of (size_of size m) b) (sym e) ∙ sym lent_sheet) (ap draft_lines draft_lent) o.draft) in
           record {
-            list = moved laid m.lines _ _ _ _ (sym list_sheet) (sym list_left) w.list;
-            draft = moved laid m.lines _ _ _ _ (sym draft-sheet) (sym (ap draft_lines draft_left)) (subst (λ L. laid L y (lines t.lines y n)) d.lines (keeps old));
+            list = moved laid m.lines _ _ _ _ (sym list_sheet) (sym list_left) o.list;
+            draft = moved laid m.lines _ _ _ _ (sym draft-sheet) (sym (ap draft_lines draft_left)) (subst (λ L. laid L y (lines t.lines y n)) w.tallied.lines (keeps old));
           }
 
     -- the same with its count of lines
     pub laid_lent : (y : List ℕ) → length y ≡ length (part b a z) → (laid : Laid) → (laid t.lines (part b a z) (lines t.lines (part b a z) t.count) → laid t.lines y (lines t.lines y t.count)) → LaidOut laid lines size b m → LaidOut laid lines size (after b a z y) m
-    laid_lent y ly laid keeps w =
+    laid_lent y ly laid keeps o =
         let same : drafting m t.count ≡ m = ap (λ d. record { lines = m.lines; bytes = m.bytes; list = m.list; count = m.count; draft = d }) (sym f) in
-        subst (LaidOut laid lines size (after b a z y)) same (laid_left y ly t.count t.within laid keeps w)
+        subst (LaidOut laid lines size (after b a z y)) same (laid_left y ly t.count t.within laid keeps o)
 
 module _ (lines : Meaning) (size : Size) (counted : (L : ℕ) (s : List ℕ) (n : ℕ) → length (lines L s n) ≡ n) (b : List ℕ) (m : Marks) (r : stands size b m ≡ true) where
   stands_begun : stands size b (drafting m 0) ≡ true

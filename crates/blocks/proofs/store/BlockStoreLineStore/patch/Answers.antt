@@ -1,7 +1,7 @@
 use Rattle.std.proofs.Common.{refl}
-use Rattle.blocks.proofs.TwoSheets.{laid_lent}
+use Rattle.blocks.proofs.TwoSheets.{lent, laid_lent}
 use Rattle.blocks.proofs.store.BlockStoreLineStore.patch.Goals as goal
 
 pub returns-clause-layout : goal.returns-clause-layout
 returns-clause-layout g c =
-    laid_lent g.L.Layout.lines g.L.Layout.size c.args.self.now.block.now c.args.self.now.at c.in_ok-draft.draft c.in_ok-draft.ensures.0 c.other.result _ c.other.ensures c.size.result c.size.ensures.is c.range-half.result.start c.range-half.result.end c.range-half.ensures.from c.range-half.ensures.to refl c.in_ok-draft.ensures.1 c.change_line.new.sheet c.change_line.auto.sheet g.L.Layout.laid c.change_line.ensures.layout
+    laid_lent g.L.Layout.lines (lent c.in_ok-draft.ensures.0 c.other.ensures c.size.ensures.is c.range-half.ensures.from c.range-half.ensures.to) refl c.in_ok-draft.ensures.1 c.change_line.new.sheet c.change_line.auto.sheet g.L.Layout.laid c.change_line.ensures.layout
