@@ -1,5 +1,5 @@
 -- Laws of what an indexed sheet means. Assumes nothing.
-use Rattle.std.proofs.Common.{◌≡◌, ℕ, zero, suc, ◌+◌, ◌-◌, ◌*◌, ◌/◌, ◌%◌, ◌<◌, ◌≤◌, min, true, eqb, leb, List, [], ◌∷◌, ◌++◌, map, length, get_or, take, drop, set, sym, refl, ap, ◌∙◌, subst, ⊎_elim, add-one, arith}
+use Rattle.std.proofs.Common.{◌≡◌, ℕ, zero, suc, ◌+◌, ◌-◌, ◌*◌, ◌/◌, ◌<◌, ◌≤◌, min, true, eqb, leb, List, [], ◌∷◌, ◌++◌, map, length, get_or, take, drop, set, sym, refl, ap, ◌∙◌, subst, ⊎_elim, add-one, arith}
 use borrow.Rule.Slice.PartMut.{put_mid}
 use Rattle.std.proofs.lemmas.Slice.{drop-put_mid, take-put_mid, take-put_mid_below, between-put_mid}
 use Rattle.std.proofs.lemmas.List.{drop-drop, get_or-take, get_or-drop, take_at, drop_at, take_more, append-nil, length-append, length-map, length-take, length-drop, take-take, drop-take}
@@ -13,9 +13,6 @@ use Rattle.blocks.specs.IndexedLaws.{length-walk, indexed_counted}
 use Rattle.blocks.specs.Laid.{Front, joined, clean, written, Turned}
 use Rattle.blocks.proofs.LaidLaws.{take-firsts, front_more, front_kept, front_set, length-plain, joined_push, drop_put, overwritten, Grown, grown, turned, clean_same}
 use Rattle.blocks.proofs.PartLaws.{get_or-firsts, firsts_set, total_push, part_same, length-mid}
-
-pub ends_more : (x : List ℕ) (room i : ℕ) → ends x room (i + 1) ≡ ends x room i + span x room i (ends x room i)
-ends_more x room i = rw (add-one i) refl
 
 pub ends_le : (x : List ℕ) (room n : ℕ) → ends x room n ≤ room
 ends_le x room zero = omega arith

@@ -17,9 +17,6 @@ reach_le s p = let h = upto_le (take 240 (drop p s)) in omega (arith, length-tak
 pub reach_rest : (s : List ℕ) (p a : ℕ) → a ≡ min p (length s) → upto (take 240 (take (length s - a) (drop a s))) ≡ reach s p
 reach_rest s p a e = ap (λ z. upto (take 240 z)) (take_rest s a ∙ ap (λ q. drop q s) e ∙ drop_min p s)
 
-pub reach_short : (s : List ℕ) (p : ℕ) → reach s p ≤ 240
-reach_short s p = let h = upto_le (take 240 (drop p s)) in omega (arith, length-take 240 (drop p s))
-
 pub length-packed_line : (s : List ℕ) (n : ℕ) → length (packed_line s n) ≡ reach s (stops s n)
 length-packed_line s n = let h = reach_le s (stops s n) in omega (arith, length-take (reach s (stops s n)) (drop (stops s n) s), length-drop (stops s n) s)
 
@@ -80,14 +77,23 @@ packed_same s s' (suc n) l h =
     let m : packed_line s' n ≡ packed_line s n = rw (e, r) (part_same s s' (stops s n) (reach s (stops s n)) (stops s n + reach s (stops s n) + 1) (omega arith) h) in
     ap (λ a. a ++ (packed_line s' n ∷ [])) (packed_same s s' n l q) ∙ ap (λ b. packed_lines s n ++ (b ∷ [])) m
 
-pub upto_line : (l r : List ℕ) (m : ℕ) → no_lf l ≡ true → length l ≤ m → upto (take m (l ++ (10 ∷ r))) ≡ length l
-upto_line [] r zero c h = refl
-upto_line [] r (suc m) c h = refl
-upto_line (b ∷ bs) r zero c h = absurd (omega arith)
-upto_line (b ∷ bs) r (suc m) c h =
+-- a front without LF counts whole
+pub upto_front : (l r : List ℕ) (m : ℕ) → no_lf l ≡ true → length l ≤ m → upto (take m (l ++ r)) ≡ length l + upto (take (m - length l) r)
+upto_front [] r m c h = let z : m - 0 ≡ m = omega arith in let y : ℕ = upto (take m r) in sym (ap (λ k. 0 + upto (take k r)) z ∙ zero-add y)
+upto_front (b ∷ bs) r zero c h = absurd (omega arith)
+upto_front (b ∷ bs) r (suc m) c h =
     let p = and_parts (not (eqb b 10)) (no_lf bs) c in
     let e = not-true (eqb b 10) p.0 in
-    upto_go b (take m (bs ++ (10 ∷ r))) e ∙ ap suc (upto_line bs r m p.1 (omega arith))
+    let ih = upto_front bs r m p.1 (omega arith) in
+    let z : suc m - suc (length bs) ≡ m - length bs = omega arith in
+    upto_go b (take m (bs ++ r)) e ∙ ap suc ih ∙ sym (ap (λ k. suc (length bs) + upto (take k r)) z ∙ suc-add (length bs) (upto (take (m - length bs) r)))
+
+lf_first : (m : ℕ) (r : List ℕ) → upto (take m (10 ∷ r)) ≡ 0
+lf_first zero r = refl
+lf_first (suc m) r = refl
+
+upto_line : (l r : List ℕ) (m : ℕ) → no_lf l ≡ true → length l ≤ m → upto (take m (l ++ (10 ∷ r))) ≡ length l
+upto_line l r m c h = upto_front l (10 ∷ r) m c h ∙ ap (λ k. length l + k) (lf_first (m - length l) r) ∙ omega arith
 
 -- one line more
 pub packed_push : (s s' l r : List ℕ) (n : ℕ) → length s' ≡ length s → take (stops s n) s' ≡ take (stops s n) s → drop (stops s n) s' ≡ l ++ (10 ∷ r) → is_line l ≡ true → packed_lines s' (n + 1) ≡ packed_lines s n ++ (l ∷ [])
@@ -124,17 +130,6 @@ stored s l l' n p e el f g =
     let qn : take (stops s n) s' ≡ take (stops s n) s = rw (← e) q in
     let dn : drop (stops s n) s' ≡ l ++ (10 ∷ drop 1 rest) = rw (← e) d in
     rw (el, k) (grown packed_lines PackedLaid s s' n l (packed_push s s' l (drop 1 rest) n ls qn dn g) (laid_push s s' l (drop 1 rest) n qn dn))
-
--- a front without LF counts whole
-pub upto_front : (l r : List ℕ) (m : ℕ) → no_lf l ≡ true → length l ≤ m → upto (take m (l ++ r)) ≡ length l + upto (take (m - length l) r)
-upto_front [] r m c h = let z : m - 0 ≡ m = omega arith in let y : ℕ = upto (take m r) in sym (ap (λ k. 0 + upto (take k r)) z ∙ zero-add y)
-upto_front (b ∷ bs) r zero c h = absurd (omega arith)
-upto_front (b ∷ bs) r (suc m) c h =
-    let p = and_parts (not (eqb b 10)) (no_lf bs) c in
-    let e = not-true (eqb b 10) p.0 in
-    let ih = upto_front bs r m p.1 (omega arith) in
-    let z : suc m - suc (length bs) ≡ m - length bs = omega arith in
-    upto_go b (take m (bs ++ r)) e ∙ ap suc ih ∙ sym (ap (λ k. suc (length bs) + upto (take k r)) z ∙ suc-add (length bs) (upto (take (m - length bs) r)))
 
 stops_mono : (s : List ℕ) (i j : ℕ) → i ≤ j → stops s i ≤ stops s j
 stops_mono s i zero h = let e : i ≡ 0 = omega arith in rw e (omega arith)

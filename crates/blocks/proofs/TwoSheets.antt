@@ -1,20 +1,18 @@
 -- Laws of a block with two sheets, for any meaning of a sheet and any size. Assumes nothing.
-use Rattle.std.proofs.Common.{◌≡◌, ℕ, ◌+◌, ◌-◌, ◌*◌, ◌≤◌, Bool, true, false, cond, ◌&&◌, leb, List, [], ◌++◌, length, take, drop, Some, None, Ok, Err, sym, refl, ap, ◌∙◌, subst, ⊎_elim, arith}
+use Rattle.std.proofs.Common.{◌≡◌, ℕ, ◌+◌, ◌-◌, ◌*◌, ◌≤◌, Bool, true, false, cond, ◌&&◌, List, [], length, take, drop, Some, None, sym, refl, ap, ◌∙◌, subst, ⊎_elim, arith}
 use borrow.Rule.Slice.PartMut.{put_mid}
-use Rattle.std.specs.Prelude.{option_map, unwrap_or}
+use Rattle.std.specs.Prelude.{option_map}
 use Rattle.std.proofs.lemmas.Slice.{take-put_mid_below, between-put_mid, drop-put_mid}
-use Rattle.std.proofs.lemmas.List.{take-append-drop, length-take, length-drop, nil_from_length}
+use Rattle.std.proofs.lemmas.List.{length-take, length-drop, nil_from_length}
 use Rattle.std.proofs.lemmas.Bool.{cond-true, cond-false, and_parts, and_from, cases_Bool, le-leb}
-use Rattle.lines.specs.declared.fault.Fault.{Fault}
-use Rattle.lines.specs.Faults.{Refusal, accepted, left}
 use Rattle.lines.specs.Lines.{Line, draft_lines}
 use Rattle.blocks.specs.declared.marks.Half.{Half}
 use Rattle.blocks.specs.declared.marks.Half.TheVariants.{First, Second}
 use Rattle.blocks.specs.declared.marks.Marks.{Marks}
 use Rattle.blocks.specs.declared.tally.Tally.{Tally}
-use Rattle.blocks.specs.Numbers.{other, base, drafts, within, fresh}
+use Rattle.blocks.specs.Numbers.{other, base, within, fresh}
 use Rattle.blocks.specs.Blocks.{Meaning, Size, fits, size_of, stands, sheet_of, list_of, draft_of, limits_of, health_of, Begins, Laid, LaidOut, Tallied}
-use Rattle.blocks.specs.BlockLaws.{Standing, standing}
+use Rattle.blocks.specs.BlockLaws.{standing}
 use Rattle.blocks.proofs.PartLaws.{length-mid}
 
 -- the part of a block that is lent as a sheet, from a to z

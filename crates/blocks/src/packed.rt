@@ -16,7 +16,11 @@ fn line_len(bytes: &[u8]) -> usize
     ensures short { result ≤ 240 }
     ensures within { result ≤ length bytes.now }
 {
-    bytes.iter().take(LONGEST).take_while(|byte| **byte != LF).count()
+    bytes
+        .iter()
+        .take(LONGEST)
+        .take_while(|byte| **byte != LF)
+        .count()
 }
 
 // Where the line behind the first `count` lines starts, which may be behind the sheet.

@@ -73,20 +73,38 @@ impl<'a, L: Layout> BlockStore<'a, L> {
     fn listed(&self) -> Result<Tally, Fault>
         ensures { MatchResult result (λ t. Listed L.Layout.size self.now.block.now self.now.at t) (λ e. Listless L.Layout.size self.now.block.now self.now.at e) }
     {
-        let Marks { lines, bytes, count, .. } = self.at;
+        let Marks {
+            lines,
+            bytes,
+            count,
+            ..
+        } = self.at;
         if !self.stands() {
             return Err(Fault::plain(Cause::NoSuchLine));
         }
-        Ok(Tally { lines, bytes, count })
+        Ok(Tally {
+            lines,
+            bytes,
+            count,
+        })
     }
 
     // The numbers of the draft's sheet, or the refusal of a call that needs a draft.
     fn drafted(&self) -> Result<Tally, Fault>
         ensures { MatchResult result (λ t. Drafted L.Layout.size self.now.block.now self.now.at t) (λ e. Draftless L.Layout.size self.now.block.now self.now.at e) }
     {
-        let Marks { lines, bytes, draft, .. } = self.at;
+        let Marks {
+            lines,
+            bytes,
+            draft,
+            ..
+        } = self.at;
         match draft {
-            Some(count) if self.stands() => Ok(Tally { lines, bytes, count }),
+            Some(count) if self.stands() => Ok(Tally {
+                lines,
+                bytes,
+                count,
+            }),
             _ => Err(Fault::plain(Cause::NoDraft)),
         }
     }
@@ -128,7 +146,8 @@ impl<'a, L: Layout> LineStore for BlockStore<'a, L> {
     ghost lawful_bottom = { λ _. L.Layout.lawful_kind };
 
     fn limits(&self) -> (usize, usize) {
-        self.listed().map_or((0, 0), |list| (list.lines, list.bytes))
+        self.listed()
+            .map_or((0, 0), |list| (list.lines, list.bytes))
     }
 
     fn bottom(&self) -> u8 {
@@ -167,7 +186,11 @@ impl<'a, L: Layout> LineStore for BlockStore<'a, L> {
         if !is_line(line) {
             return Err(Fault::plain(Cause::NotALine));
         }
-        let half = self.at.list.other().range(L::size(draft.lines, draft.bytes));
+        let half = self
+            .at
+            .list
+            .other()
+            .range(L::size(draft.lines, draft.bytes));
         add_line::<L>(&mut self.block[half], draft, line)?;
         self.at.draft = Some(draft.count + 1);
         Ok(())
@@ -175,7 +198,11 @@ impl<'a, L: Layout> LineStore for BlockStore<'a, L> {
 
     fn look(&self, n: usize, buf: &mut [u8]) -> Result<usize, Fault> {
         let draft = self.drafted()?;
-        let half = self.at.list.other().range(L::size(draft.lines, draft.bytes));
+        let half = self
+            .at
+            .list
+            .other()
+            .range(L::size(draft.lines, draft.bytes));
         read_line::<L>(&self.block[half], draft, n, buf)
     }
 
@@ -192,7 +219,11 @@ impl<'a, L: Layout> LineStore for BlockStore<'a, L> {
         if !is_line(line) {
             return Err(Fault::plain(Cause::NotALine));
         }
-        let half = self.at.list.other().range(L::size(draft.lines, draft.bytes));
+        let half = self
+            .at
+            .list
+            .other()
+            .range(L::size(draft.lines, draft.bytes));
         change_line::<L>(&mut self.block[half], draft, n, line)
     }
 

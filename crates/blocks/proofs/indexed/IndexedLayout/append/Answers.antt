@@ -1,6 +1,6 @@
-use Rattle.std.proofs.Common.{◌≡◌, ℕ, ◌+◌, ◌-◌, ◌*◌, List, [], ◌∷◌, ◌++◌, length, get_or, drop, refl, sym, ap, ◌∙◌, arith}
+use Rattle.std.proofs.Common.{◌≡◌, ℕ, ◌+◌, ◌*◌, List, [], ◌∷◌, ◌++◌, length, get_or, drop, refl, ap, ◌∙◌, arith}
 use Rattle.std.proofs.lemmas.List.{length-drop}
-use Rattle.blocks.specs.Indexed.{word_of, ends}
+use Rattle.blocks.specs.Indexed.{word_of}
 use Rattle.blocks.proofs.IndexedLaws.{stored_in, total-walk}
 use Rattle.blocks.proofs.LaidLaws.{overwritten}
 use Rattle.blocks.proofs.indexed.IndexedLayout.append.Goals as goal

@@ -1,6 +1,4 @@
-use Rattle.std.proofs.Common.{◌≡◌, ℕ, ◌*◌, ◌/◌, List, [], length, get_or, take, drop, sym, ap, ◌∙◌, arith}
-use Rattle.std.proofs.lemmas.List.{length-drop}
-use Rattle.blocks.specs.Indexed.{span, ends, ends_in}
+use Rattle.std.proofs.Common.{◌∙◌, arith}
 use Rattle.blocks.proofs.IndexedLaws.{placed, indexed_part, indexed_turned}
 use Rattle.blocks.proofs.indexed.IndexedLayout.place.Goals as goal
 

@@ -1,4 +1,3 @@
-use Rattle.std.proofs.Common.{ℕ, List}
 use Rattle.blocks.proofs.PackedLaws.{packed_part, packed_turned}
 use Rattle.blocks.proofs.packed.PackedLayout.place.Goals as goal
 

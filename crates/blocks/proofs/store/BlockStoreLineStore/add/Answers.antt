@@ -1,4 +1,4 @@
-use Rattle.std.proofs.Common.{ℕ, ◌+◌, List, ◌++◌, ◌∷◌, [], Some, refl, sym, ap, ◌∙◌, arith}
+use Rattle.std.proofs.Common.{ℕ, ◌+◌, List, ◌++◌, ◌∷◌, [], Some, refl, sym, ap, ◌∙◌}
 use Rattle.lines.specs.Faults.{left}
 use Rattle.lines.specs.Lines.{add_refusal, draft_lines}
 use Rattle.lines.proofs.LineLaws.{accepted_ok}
