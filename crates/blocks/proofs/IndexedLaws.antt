@@ -11,8 +11,8 @@ use Rattle.lines.specs.Lines.{Line, no_lf, is_line, total}
 use Rattle.blocks.specs.Indexed.{word, length_at, span, ends, ends_in, line_at, walk, indexed_lines, word_of, index_from, IndexedLaid}
 use Rattle.blocks.specs.IndexedLaws.{length-walk, indexed_counted}
 use Rattle.blocks.specs.Laid.{Front, joined, clean, written, Turned}
-use Rattle.blocks.proofs.LaidLaws.{take-firsts, front_more, front_kept, front_set, length-plain, joined_push, drop_put, overwritten, Grown, grown, turned, clean_same}
-use Rattle.blocks.proofs.PartLaws.{get_or-firsts, firsts_set, total_push, part_same, length-mid}
+use Rattle.blocks.proofs.LaidLaws.{front_more, front_kept, front_set, length-plain, joined_push, drop_put, overwritten, Grown, grown, turned, clean_same}
+use Rattle.blocks.proofs.PartLaws.{get_or-firsts, take-firsts, firsts_set, total_push, part_same, length-mid}
 
 pub ends_le : (x : List ℕ) (room n : ℕ) → ends x room n ≤ room
 ends_le x room zero = omega arith

@@ -1,22 +1,11 @@
 -- Laws of lines laid out in bytes. Assumes nothing.
-use Rattle.std.proofs.Common.{◌≡◌, ℕ, zero, suc, ◌+◌, ◌-◌, ◌<◌, ◌≤◌, true, not, eqb, List, [], ◌∷◌, ◌++◌, map, length, get_or, take, drop, set, sym, refl, ap, ◌∙◌, subst, ⊎_elim, suc-add, zero-add, arith}
+use Rattle.std.proofs.Common.{◌≡◌, ℕ, zero, suc, ◌+◌, ◌-◌, ◌<◌, ◌≤◌, true, not, eqb, List, [], ◌∷◌, ◌++◌, map, length, get_or, take, drop, set, sym, refl, ap, ◌∙◌, subst, suc-add, zero-add, arith}
 use borrow.Rule.Slice.PartMut.{put_mid}
-use Rattle.std.proofs.lemmas.List.{append_assoc, append-nil, length-append, length-take, take-append-drop, take-append-le, take-take, take_all, take_at, drop_at}
-use Rattle.std.proofs.lemmas.Bool.{and_parts, not-true, cases_eq}
+use Rattle.std.proofs.lemmas.List.{append_assoc, append-nil, length-append, length-take, take-append-drop, take-take, take_at, drop_at}
+use Rattle.std.proofs.lemmas.Bool.{and_parts, not-true}
 use Rattle.lines.specs.Lines.{Line, no_lf, total}
-use Rattle.blocks.specs.Blocks.{Meaning, Laid, firsts}
-use Rattle.blocks.specs.BlockLaws.{length-firsts}
+use Rattle.blocks.specs.Blocks.{Meaning, Laid}
 use Rattle.blocks.specs.Laid.{Front, joined, clean, written, Turned}
-
-pub take-firsts : (f : ℕ → Line) (n i : ℕ) → i ≤ n → take i (firsts f n) ≡ firsts f i
-take-firsts f zero i h = let z : i ≡ 0 = omega arith in rw z refl
-take-firsts f (suc n) i h =
-    let l = length-firsts f n in
-    let k = length-firsts f (suc n) in
-    ⊎_elim
-    (λ (e : i ≡ suc n). rw e (take_all (suc n) (firsts f (suc n)) (omega arith)))
-    (λ ne. take-append-le i (firsts f n) (f n ∷ []) (omega (arith, ne)) ∙ take-firsts f n i (omega (arith, ne)))
-    (cases_eq i (suc n))
 
 -- bytes that begin with f, and what stands behind it
 pub front_split : (f s : List ℕ) → Front f s → s ≡ f ++ drop (length f) s

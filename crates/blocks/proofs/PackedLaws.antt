@@ -2,14 +2,15 @@
 use Rattle.std.proofs.Common.{◌≡◌, ℕ, zero, suc, ◌+◌, ◌-◌, ◌<◌, ◌≤◌, min, true, false, not, eqb, leb, ◌⊎◌, List, [], ◌∷◌, ◌++◌, map, length, get_or, take, drop, set, sym, refl, ap, ◌∙◌, subst, ⊎_elim, suc-add, zero-add, add-one, arith}
 use borrow.Rule.Slice.PartMut.{put_mid}
 use Rattle.std.proofs.lemmas.List.{append_assoc, length-take, length-drop, length-set, take-take, take_all, drop_more, drop-set-add, set_at, take-set-le, drop_at, take_at, take-append-drop, drop-drop, drop_min, take_rest, nil_from_length, set-get_or}
+use Rattle.std.proofs.Math.Seq.{drop-append-add}
 use Rattle.std.proofs.lemmas.Slice.{take-put_mid_below}
 use Rattle.std.proofs.lemmas.Bool.{and_parts, not-true, leb-true, cases_lt, cases_eq, cases_order, cases_Bool}
 use Rattle.lines.specs.Lines.{no_lf, is_line, total}
 use Rattle.blocks.specs.Packed.{upto, reach, stops, packed_line, packed_lines, PackedLaid}
 use Rattle.blocks.specs.PackedLaws.{upto_le, upto_stop, upto_go, no_lf-upto, packed_counted}
 use Rattle.blocks.specs.Laid.{Front, joined, clean, written, Turned}
-use Rattle.blocks.proofs.LaidLaws.{take-firsts, front_of, front_more, front_kept, front_set, length-ended, joined_push, Grown, grown, turned, clean_same}
-use Rattle.blocks.proofs.PartLaws.{get_or-firsts, firsts_set, part_same, total_push, length-mid}
+use Rattle.blocks.proofs.LaidLaws.{front_of, front_more, front_kept, front_set, length-ended, joined_push, Grown, grown, turned, clean_same}
+use Rattle.blocks.proofs.PartLaws.{get_or-firsts, take-firsts, firsts_set, part_same, total_push, length-mid}
 
 pub reach_le : (s : List ℕ) (p : ℕ) → reach s p ≤ length s - p
 reach_le s p = let h = upto_le (take 240 (drop p s)) in omega (arith, length-take 240 (drop p s), length-drop p s)
@@ -140,9 +141,7 @@ stops_mono s i (suc j) h =
     (cases_eq i (suc j))
 
 drop_past : (l r : List ℕ) (k : ℕ) → length l ≤ k → drop k (l ++ r) ≡ drop (k - length l) r
-drop_past l r k h =
-    let e : length l + (k - length l) ≡ k = omega arith in
-    ap (λ z. drop z (l ++ r)) (sym e) ∙ sym (drop-drop (k - length l) (length l) (l ++ r)) ∙ ap (drop (k - length l)) (drop_at l r (length l) refl)
+drop_past l r k h = let e : length l + (k - length l) ≡ k = omega arith in ap (λ z. drop z (l ++ r)) (sym e) ∙ drop-append-add l r (k - length l)
 
 -- line i's bytes are changed to those of l, which are as many
 module _ (s s' l : List ℕ) (i : ℕ) (ls : length s' ≡ length s) (size : length l ≡ reach s (stops s i)) (inside : stops s i ≤ length s) (low : take (stops s i) s' ≡ take (stops s i) s) (at : drop (stops s i) s' ≡ l ++ drop (stops s i + length l) s) (g : is_line l ≡ true) where

@@ -9,7 +9,8 @@
 -- stands size b m    the limits fit the block, and the counts the limits
 -- sheet_of k b h     the bytes of the sheet on the half h, where a sheet has k bytes
 -- list_of, draft_of  the current list, and the draft: it lies on the other half
--- Listed, Drafted    the store stands, and t has its limits and the count of the list, or of the draft
+-- Tallied .. t       the store stands, and t has its limits
+-- Listed, Drafted    the same, and t has the count of the list, or of the draft
 -- Listless           the store does not stand, and the refusal f says that there is no such line
 -- Draftless          the store does not stand or has no draft, and the refusal f says so
 -- limits_of          the limits: those of the numbers, or 0 and 0 where the store does not stand
@@ -48,7 +49,6 @@ size_of size m = size m.lines m.bytes
 abbrev pub stands : Size → List ℕ → Marks → Bool
 stands size b m = fits size m.lines m.bytes (length b) && within m
 
--- the store stands, and t has its limits
 pub record Tallied (size : Size) (b : List ℕ) (m : Marks) (t : Tally) : Type 0 where
   pub stood : stands size b m ≡ true
   pub lines : t.lines ≡ m.lines
