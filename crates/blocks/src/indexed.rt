@@ -5,6 +5,7 @@ ghost use Rattle.blocks.specs.IndexedLaws.{indexed_grows, indexed_counted, index
 use crate::layout::Layout;
 use crate::tally::Tally;
 use lines::line::LONGEST;
+use std::ops::Range;
 
 // An index of the lines of a sheet, and their text.
 #[derive(Default, Drop)]
@@ -74,11 +75,12 @@ impl Layout for Indexed {
         end_of(&entries[..tally.count], tally.bytes)
     }
 
-    fn place(sheet: &[u8], tally: Tally, row: usize) -> (usize, usize) {
+    fn place(sheet: &[u8], tally: Tally, row: usize) -> Range<usize> {
         let (entries, _) = sheet.as_chunks::<4>();
         let start = end_of(&entries[..row], tally.bytes);
         let len = span_of(&entries[row], tally.bytes, start);
-        (4 * tally.lines + start, len)
+        let from = 4 * tally.lines + start;
+        from..from + len
     }
 
     fn append(sheet: &mut [u8], tally: Tally, used: usize, line: &[u8]) {

@@ -1,9 +1,10 @@
-ghost use Rattle.std.specs.Prelude.{◌≡◌, ℕ, ◌+◌, ◌<◌, ◌≤◌, true, List, [], ◌∷◌, ◌++◌, map, length, take, drop, slice_index_or};
+ghost use Rattle.std.specs.Prelude.{◌≡◌, ℕ, ◌+◌, ◌-◌, ◌<◌, ◌≤◌, true, List, [], ◌∷◌, ◌++◌, map, length, take, drop, slice_index_or};
 ghost use Rattle.std.specs.List.{AllByRecursion};
 ghost use Rattle.lines.specs.Lines.{is_line, LawfulKind, total};
 ghost use Rattle.blocks.specs.Laid.{clean, Turned};
 
 use crate::tally::Tally;
+use std::ops::Range;
 
 // How the lines of a sheet lie in its bytes. The trait has no name outside this crate, so its functions have no callers
 // there.
@@ -44,14 +45,14 @@ pub(crate) trait Layout {
         ensures is { result ≡ total (lines tally.lines sheet.now tally.count) }
         ensures small { result ≤ length sheet.now };
 
-    // Where line `row` of a sheet lies, counted from 0: its start and its length. Any line of that length can be written
-    // there in its place.
-    fn place(sheet: &[u8], tally: Tally, row: usize) -> (usize, usize)
+    // Where line `row` of a sheet lies, counted from 0. Any line of that length can be written there in its place.
+    fn place(sheet: &[u8], tally: Tally, row: usize) -> Range<usize>
         requires size { length sheet.now ≡ size tally.lines tally.bytes }
         requires row { row < tally.count }
-        ensures inside { result.0 + result.1 ≤ length sheet.now }
-        ensures line { map clean (take result.1 (drop result.0 sheet.now)) ≡ slice_index_or (lines tally.lines sheet.now tally.count) row [] }
-        ensures turns { (l : List ℕ) → is_line l ≡ true → length l ≡ result.1 → Turned lines laid tally.lines sheet.now tally.count row result.0 l };
+        ensures from { result.start ≤ result.end }
+        ensures to { result.end ≤ length sheet.now }
+        ensures line { map clean (take (result.end - result.start) (drop result.start sheet.now)) ≡ slice_index_or (lines tally.lines sheet.now tally.count) row [] }
+        ensures turns { (l : List ℕ) → is_line l ≡ true → length l ≡ result.end - result.start → Turned lines laid tally.lines sheet.now tally.count row result.start l };
 
     // Puts a line behind those of a sheet, which have `used` bytes.
     fn append(sheet: &mut [u8], tally: Tally, used: usize, line: &[u8])

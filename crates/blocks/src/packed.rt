@@ -5,6 +5,7 @@ ghost use Rattle.blocks.specs.PackedLaws.{packed_grows, packed_counted, packed_l
 use crate::layout::Layout;
 use crate::tally::Tally;
 use lines::line::{LF, LONGEST};
+use std::ops::Range;
 
 // The lines of a sheet, packed, each ended by LF.
 #[derive(Default, Drop)]
@@ -67,9 +68,9 @@ impl Layout for Packed {
         stop_of(sheet, tally.count) - tally.count
     }
 
-    fn place(sheet: &[u8], tally: Tally, row: usize) -> (usize, usize) {
+    fn place(sheet: &[u8], tally: Tally, row: usize) -> Range<usize> {
         let start = stop_of(sheet, row).min(sheet.len());
-        (start, line_len(&sheet[start..]))
+        start..start + line_len(&sheet[start..])
     }
 
     fn append(sheet: &mut [u8], tally: Tally, used: usize, line: &[u8]) {

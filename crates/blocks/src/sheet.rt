@@ -46,8 +46,8 @@ pub(crate) fn read_line<L: Layout>(
     ensures answer { result ≡ verdict (read_refusal (L.Layout.lines tally.lines sheet.now tally.count) number (length buf.old)) (length (line_of (L.Layout.lines tally.lines sheet.now tally.count) number)) }
     ensures bytes { buf.new ≡ left (read_refusal (L.Layout.lines tally.lines sheet.now tally.count) number (length buf.old)) (fronted (line_of (L.Layout.lines tally.lines sheet.now tally.count) number) buf.old) buf.old }
 {
-    let (start, len) = L::place(sheet, tally, row_of(tally, number)?);
-    put_line(&sheet[start..start + len], buf)?;
+    let place = L::place(sheet, tally, row_of(tally, number)?);
+    let len = put_line(&sheet[place], buf)?;
     clean_line(&mut buf[..len]);
     Ok(len)
 }
@@ -82,10 +82,11 @@ pub(crate) fn change_line<L: Layout>(
     ensures taken { MatchResult result (λ _. L.Layout.lines tally.lines sheet.new tally.count ≡ slice_set (L.Layout.lines tally.lines sheet.old tally.count) (number - 1) line.now) (λ _. sheet.new ≡ sheet.old) }
     ensures layout { L.Layout.laid tally.lines sheet.old (L.Layout.lines tally.lines sheet.old tally.count) → L.Layout.laid tally.lines sheet.new (L.Layout.lines tally.lines sheet.new tally.count) }
 {
-    let (start, len) = L::place(sheet, tally, row_of(tally, number)?);
-    if line.len() != len {
+    let place = L::place(sheet, tally, row_of(tally, number)?);
+    let old = &mut sheet[place];
+    if line.len() != old.len() {
         return Err(Fault::plain(Cause::OtherLength));
     }
-    sheet[start..start + len].copy_from_slice(line);
+    old.copy_from_slice(line);
     Ok(())
 }
