@@ -1,26 +1,18 @@
 -- Laws of what an indexed sheet means. Assumes nothing.
-use Rattle.std.proofs.Common.{◌≡◌, ℕ, zero, suc, ◌+◌, ◌-◌, ◌*◌, ◌/◌, ◌%◌, ◌<◌, ◌≤◌, true, not, eqb, leb, ◌≢◌, List, [], ◌∷◌, ◌++◌, map, length, get_or, take, drop, set, sym, refl, ap, ◌∙◌, subst, ⊎_elim, add-one, arith}
+use Rattle.std.proofs.Common.{◌≡◌, ℕ, zero, suc, ◌+◌, ◌-◌, ◌*◌, ◌/◌, ◌<◌, ◌≤◌, min, true, eqb, leb, List, [], ◌∷◌, ◌++◌, map, length, get_or, take, drop, set, sym, refl, ap, ◌∙◌, subst, ⊎_elim, add-one, arith}
 use borrow.Rule.Slice.PartMut.{put_mid}
-use Rattle.std.proofs.lemmas.Slice.{drop-put_mid, take-put_mid_below, between-put_mid}
-use Rattle.std.proofs.lemmas.List.{drop-set-lt, drop-drop, get_or-take, get_or-set_same, get_or-set_other, length-set, drop_more, set_at, map_more, append_assoc, append-nil, length-append, take_more_set, length-map, length-take, length-drop, take-take, drop-take}
-use Rattle.std.proofs.lemmas.Bool.{cond-true, eq-eqb, cases_lt, cases_eq, leb-true, and_parts, not-true}
-use Rattle.lines.specs.Lines.{Line, no_lf, is_line, total, line_of, fronted}
-use Rattle.blocks.specs.Indexed.{word, clean, length_at, span, ends, line_at, walk, indexed_lines, word_of, index_from, IndexedLaid}
+use Rattle.std.proofs.lemmas.Slice.{drop-put_mid, take-put_mid, take-put_mid_below, between-put_mid}
+use Rattle.std.proofs.lemmas.List.{drop-drop, get_or-take, get_or-drop, take_at, drop_at, take_more, append-nil, length-append, length-map, length-take, length-drop, take-take, drop-take}
+use Rattle.std.proofs.lemmas.List.Sums.{fold_push}
+use Rattle.std.proofs.lemmas.Bool.{cond-true, eq-eqb, cases_lt, cases_eq, leb-true, and_parts}
+use Rattle.std.specs.List.{fold}
+use Rattle.std.specs.Simd.{first_chunks}
+use Rattle.lines.specs.Lines.{Line, no_lf, is_line, total}
+use Rattle.blocks.specs.Indexed.{word, length_at, span, ends, ends_in, line_at, walk, indexed_lines, word_of, index_from, IndexedLaid}
 use Rattle.blocks.specs.IndexedLaws.{length-walk, indexed_counted}
-use Rattle.blocks.specs.Laid.{Front, joined}
-use Rattle.blocks.proofs.LaidLaws.{take-firsts, front_more, front_kept, front_set, length-plain, joined_push, drop_put, Grown, Changed, grown, turned}
-use Rattle.blocks.proofs.PartLaws.{get_or-firsts, firsts_set, total_push, part_same, length-mid}
-
-pub clean_same : (l : List ℕ) → no_lf l ≡ true → map clean l ≡ l
-clean_same [] h = refl
-clean_same (b ∷ bs) h =
-    let p = and_parts (not (eqb b 10)) (no_lf bs) h in
-    let n = not-true (eqb b 10) p.0 in
-    let r = clean_same bs p.1 in
-    rw (n, r) refl
-
-pub ends_more : (x : List ℕ) (room i : ℕ) → ends x room (i + 1) ≡ ends x room i + span x room i (ends x room i)
-ends_more x room i = rw (add-one i) refl
+use Rattle.blocks.specs.Laid.{Front, joined, clean, written, Turned}
+use Rattle.blocks.proofs.LaidLaws.{front_more, front_kept, front_set, length-plain, joined_push, drop_put, overwritten, Grown, grown, turned, clean_same}
+use Rattle.blocks.proofs.PartLaws.{get_or-firsts, take-firsts, firsts_set, total_push, part_same, length-mid}
 
 pub ends_le : (x : List ℕ) (room n : ℕ) → ends x room n ≤ room
 ends_le x room zero = omega arith
@@ -64,82 +56,62 @@ walk_push x x' t t' l n w v lt q r s c f =
     let m : line_at x' t' n ≡ l = rw (lt, e, k, r) (clean_same l c) in
     rw add-one (ap (λ a. a ++ (line_at x' t' n ∷ [])) h ∙ ap (λ b. walk x t n ++ (b ∷ [])) m)
 
--- an index entry, written byte by byte
-abbrev pub entry : List ℕ → ℕ → ℕ → ℕ → ℕ → ℕ → List ℕ
-entry x n a b c d = set (set (set (set x (4 * n) a) (4 * n + 1) b) (4 * n + 2) c) (4 * n + 3) d
-
-pub get_or-entry : (x : List ℕ) (n a b c d j : ℕ) → j < 4 * n → get_or (entry x n a b c d) j 0 ≡ get_or x j 0
-get_or-entry x n a b c d j h =
-    let n0 : j ≢ 4 * n = omega arith in
-    let n1 : j ≢ 4 * n + 1 = omega arith in
-    let n2 : j ≢ 4 * n + 2 = omega arith in
-    let n3 : j ≢ 4 * n + 3 = omega arith in
-    rw (get_or-set_other, get_or-set_other, get_or-set_other, get_or-set_other) refl
-
--- entries of equal bytes give equal lengths
-entry_same : (x x' : List ℕ) (i : ℕ) → ((j : ℕ) → j < 4 * i + 4 → get_or x' j 0 ≡ get_or x j 0) → (p : ℕ) → length_at x' i p ≡ length_at x i p
-entry_same x x' i h p =
-    let a = h (4 * i) (omega arith) in
-    let b = h (4 * i + 1) (omega arith) in
-    let c = h (4 * i + 2) (omega arith) in
-    let d = h (4 * i + 2 + 1) (omega arith) in
+-- indexes whose first m bytes are the same, with entry i among them
+entry_same : (x x' : List ℕ) (m i : ℕ) → 4 * i + 4 ≤ m → take m x' ≡ take m x → (p : ℕ) → length_at x' i p ≡ length_at x i p
+entry_same x x' m i h q p =
+    let at : (j : ℕ) → j < m → get_or x' j 0 ≡ get_or x j 0 = λ j l. sym (get_or-take m x' j 0 l) ∙ (ap (λ z. get_or z j 0) q ∙ get_or-take m x j 0 l) in
+    let a = at (4 * i) (omega arith) in
+    let b = at (4 * i + 1) (omega arith) in
+    let c = at (4 * i + 2) (omega arith) in
+    let d = at (4 * i + 2 + 1) (omega arith) in
     rw (a, b, c, d) refl
 
-pub word_entry : (x : List ℕ) (n a b c d i : ℕ) → i < n → (p : ℕ) → length_at (entry x n a b c d) i p ≡ length_at x i p
-word_entry x n a b c d i h = entry_same x (entry x n a b c d) i (λ j m. get_or-entry x n a b c d j (omega arith))
+-- entry i of an index is an index of one line
+entry_alone : (x : List ℕ) (i p : ℕ) → length_at (take 4 (drop (4 * i) x)) 0 p ≡ length_at x i p
+entry_alone x i p =
+    let at : (j : ℕ) → j < 4 → get_or (take 4 (drop (4 * i) x)) j 0 ≡ get_or x (4 * i + j) 0 = λ j l. get_or-take 4 (drop (4 * i) x) j 0 l ∙ get_or-drop (4 * i) x j 0 in
+    let o : 4 * i + 2 + 1 ≡ 4 * i + 3 = omega arith in
+    let z : 4 * i + 0 ≡ 4 * i = omega arith in
+    let a = at 0 (omega arith) ∙ ap (λ j. get_or x j 0) z in
+    let b = at 1 (omega arith) in
+    let c = at 2 (omega arith) in
+    let d = at 3 (omega arith) ∙ ap (λ j. get_or x j 0) (sym o) in
+    rw (a, b, c, d) refl
 
-pub word_new : (x : List ℕ) (n p k : ℕ) → 4 * n + 3 < length x → length_at (entry x n (p % 256) (p / 256) (k % 256) (k / 256)) n p ≡ k
-word_new x n p k h =
-    let x1 : List ℕ = set x (4 * n) (p % 256) in
-    let x2 : List ℕ = set x1 (4 * n + 1) (p / 256) in
-    let x3 : List ℕ = set x2 (4 * n + 2) (k % 256) in
-    let l1 : length x1 ≡ length x = length-set x (4 * n) (p % 256) in
-    let l2 : length x2 ≡ length x = length-set x1 (4 * n + 1) (p / 256) ∙ l1 in
-    let l3 : length x3 ≡ length x = length-set x2 (4 * n + 2) (k % 256) ∙ l2 in
-    let y : List ℕ = set x3 (4 * n + 3) (k / 256) in
-    let a : get_or y (4 * n) 0 ≡ p % 256 =
-    get_or-set_other x3 (4 * n + 3) (4 * n) (k / 256) 0 (λ e. omega arith) ∙ get_or-set_other x2 (4 * n + 2) (4 * n) (k % 256) 0 (λ e. omega arith)
-    ∙ get_or-set_other x1 (4 * n + 1) (4 * n) (p / 256) 0 (λ e. omega arith) ∙ get_or-set_same x (4 * n) (p % 256) 0 (omega arith) in
-    let b : get_or y (4 * n + 1) 0 ≡ p / 256 =
-    get_or-set_other x3 (4 * n + 3) (4 * n + 1) (k / 256) 0 (λ e. omega arith) ∙ get_or-set_other x2 (4 * n + 2) (4 * n + 1) (k % 256) 0 (λ e. omega arith)
-    ∙ get_or-set_same x1 (4 * n + 1) (p / 256) 0 (omega arith) in
-    let c : get_or y (4 * n + 2) 0 ≡ k % 256 =
-    get_or-set_other x3 (4 * n + 3) (4 * n + 2) (k / 256) 0 (λ e. omega arith) ∙ get_or-set_same x2 (4 * n + 2) (k % 256) 0 (omega arith) in
-    let o : 4 * n + 2 + 1 ≡ 4 * n + 3 = omega arith in
-    let d : get_or y (4 * n + 2 + 1) 0 ≡ k / 256 = ap (λ j. get_or y j 0) o ∙ get_or-set_same x3 (4 * n + 3) (k / 256) 0 (omega arith) in
-    let start : word y (4 * n) ≡ p = omega arith in
-    let long : word y (4 * n + 2) ≡ k = omega arith in
-    cond-true (eqb (word y (4 * n)) p) (word y (4 * n + 2)) 0 (eq-eqb (word y (4 * n)) p start) ∙ long
+-- the entries as they are cut off an index
+get_or-entries : (k : ℕ) (x d : List ℕ) (i : ℕ) → i < k → get_or (first_chunks 4 k x) i d ≡ take 4 (drop (4 * i) x)
+get_or-entries zero x d i h = absurd (omega arith)
+get_or-entries (suc k) x d zero h = refl
+get_or-entries (suc k) x d (suc i) h =
+    let z : 4 * i + 4 ≡ 4 * suc i = omega arith in
+    let o : 4 + 4 * i ≡ 4 * suc i = omega arith in
+    get_or-entries k (drop 4 x) d i (omega arith) ∙ ap (take 4) (drop-drop (4 * i) 4 x ∙ ap (λ n. drop n x) o)
 
-pub drop_entry : (s : List ℕ) (m n a b c d : ℕ) → 4 * n + 3 < m → drop m (entry s n a b c d) ≡ drop m s
-drop_entry s m n a b c d h =
-    let h0 : 4 * n < m = omega arith in
-    let h1 : 4 * n + 1 < m = omega arith in
-    let h2 : 4 * n + 2 < m = omega arith in
-    rw (drop-set-lt, drop-set-lt, drop-set-lt, drop-set-lt) refl
+length-entries : (k : ℕ) (x : List ℕ) → length (first_chunks 4 k x) ≡ k
+length-entries zero x = refl
+length-entries (suc k) x = ap suc (length-entries k (drop 4 x))
 
-pub length-entry : (s : List ℕ) (n a b c d : ℕ) → length (entry s n a b c d) ≡ length s
-length-entry s n a b c d = simp length-set
+pub span_entry : (k : ℕ) (x d : List ℕ) (room i p : ℕ) → i < k → span (get_or (first_chunks 4 k x) i d) room 0 p ≡ span x room i p
+span_entry k x d room i p h = ap (λ e. span e room 0 p) (get_or-entries k x d i h) ∙ ap (λ n. min (min n 240) (room - p)) (entry_alone x i p)
 
--- the first bytes of a sheet with an entry more
-take-entry : (x : List ℕ) (n a b c d : ℕ) → 4 * n + 3 < length x → take (4 * n + 4) (entry x n a b c d) ≡ take (4 * n) x ++ (a ∷ b ∷ c ∷ d ∷ [])
-take-entry x n a b c d h =
-    let x1 : List ℕ = set x (4 * n) a in
-    let x2 : List ℕ = set x1 (4 * n + 1) b in
-    let x3 : List ℕ = set x2 (4 * n + 2) c in
-    let l1 : length x1 ≡ length x = length-set x (4 * n) a in
-    let l2 : length x2 ≡ length x = length-set x1 (4 * n + 1) b ∙ l1 in
-    let l3 : length x3 ≡ length x = length-set x2 (4 * n + 2) c ∙ l2 in
-    let o2 : 4 * n + 2 ≡ 4 * n + 1 + 1 = omega arith in
-    let o3 : 4 * n + 3 ≡ 4 * n + 2 + 1 = omega arith in
-    let o4 : 4 * n + 4 ≡ 4 * n + 3 + 1 = omega arith in
-    let e1 : take (4 * n + 1) x1 ≡ take (4 * n) x ++ (a ∷ []) = take_more_set x (4 * n) a (omega arith) in
-    let e2 : take (4 * n + 2) x2 ≡ take (4 * n + 1) x1 ++ (b ∷ []) = ap (λ k. take k x2) o2 ∙ take_more_set x1 (4 * n + 1) b (omega arith) in
-    let e3 : take (4 * n + 3) x3 ≡ take (4 * n + 2) x2 ++ (c ∷ []) = ap (λ k. take k x3) o3 ∙ take_more_set x2 (4 * n + 2) c (omega arith) in
-    let f : List ℕ = take (4 * n) x in
-    ap (λ k. take k (set x3 (4 * n + 3) d)) o4 ∙ take_more_set x3 (4 * n + 3) d (omega arith)
-    ∙ ap (λ z. z ++ (d ∷ [])) (e3 ∙ ap (λ z. z ++ (c ∷ [])) (e2 ∙ ap (λ z. z ++ (b ∷ [])) e1 ∙ append_assoc f (a ∷ []) (b ∷ [])) ∙ append_assoc f (a ∷ b ∷ []) (c ∷ []))
-    ∙ append_assoc f (a ∷ b ∷ c ∷ []) (d ∷ [])
+pub ends_entries : (k : ℕ) (x : List ℕ) (room n : ℕ) → n ≤ k → ends_in (take n (first_chunks 4 k x)) room ≡ ends x room n
+ends_entries k x room zero h = refl
+ends_entries k x room (suc n) h =
+    let l = length-entries k x in
+    let e = ends_entries k x room n (omega arith) in
+    let f : ℕ → List ℕ → ℕ = λ p e. p + span e room 0 p in
+    ap (λ z. fold f 0 z) (ap (λ j. take j (first_chunks 4 k x)) (sym (add-one n)) ∙ take_more (first_chunks 4 k x) n [] (omega arith))
+    ∙ fold_push f 0 (take n (first_chunks 4 k x)) (get_or (first_chunks 4 k x) n [])
+    ∙ ap (λ p. p + span (get_or (first_chunks 4 k x) n []) room 0 p) e
+    ∙ ap (λ j. ends x room n + j) (span_entry k x [] room n (ends x room n) (omega arith))
+
+-- what the entry of a line gives back
+entry_new : (p k : ℕ) → length_at (word_of p ++ word_of k) 0 p ≡ k
+entry_new p k =
+    let w : List ℕ = word_of p ++ word_of k in
+    let start : word w 0 ≡ p = omega arith in
+    let long : word w 2 ≡ k = omega arith in
+    cond-true (eqb (word w 0) p) (word w 2) 0 (eq-eqb (word w 0) p start) ∙ long
 
 -- the index of some lines: 4 bytes for each; with one line more, and with one changed
 length-index : (p : ℕ) (ls : List Line) → length (index_from p ls) ≡ 4 * length ls
@@ -175,55 +147,47 @@ text_more t t' ls l p used q r w =
     subst (λ z. Front z t') (sym (joined_push [] ls l ∙ ap (λ z. j ++ z) (append-nil l))) (front_more j l t' (front_kept j t t' p q (omega arith) w) high)
 
 -- one line more in a sheet: its index entry, and its bytes behind the text so far
-pub stored : (s l l' : List ℕ) (limit n p : ℕ) → p ≡ ends s (length (drop (4 * limit) s)) n → l' ≡ l → 4 * limit + p + length l ≤ length s → n < limit → is_line l ≡ true → Grown (indexed_lines limit) (IndexedLaid limit) s (put_mid (4 * limit + p) (4 * limit + p + length l - (4 * limit + p)) (entry s n (p % 256) (p / 256) (length l % 256) (length l / 256)) l') n l
-stored s l l' limit n p e el f h g =
+pub stored : (s s' l : List ℕ) (limit n p : ℕ) → p ≡ ends s (length (drop (4 * limit) s)) n → length s' ≡ length s → take (4 * n + 4) s' ≡ take (4 * n) s ++ (word_of p ++ word_of (length l)) → take p (drop (4 * limit) s') ≡ take p (drop (4 * limit) s) → take (length l) (drop p (drop (4 * limit) s')) ≡ l → 4 * limit + p + length l ≤ length s → n < limit → is_line l ≡ true → Grown (indexed_lines limit) (IndexedLaid limit) s s' n l
+stored s s' l limit n p e ls front q r f h g =
     let parts = and_parts (leb (length l) 240) (no_lf l) g in
     let le : length l ≤ 240 = leb-true (length l) 240 parts.0 in
     let m : ℕ = 4 * limit in
-    let k : m + p + length l - (m + p) ≡ length l = omega arith in
-    let y : List ℕ = entry s n (p % 256) (p / 256) (length l % 256) (length l / 256) in
-    let ly : length y ≡ length s = length-entry s n (p % 256) (p / 256) (length l % 256) (length l / 256) in
-    let dy : drop m y ≡ drop m s = drop_entry s m n (p % 256) (p / 256) (length l % 256) (length l / 256) (omega arith) in
-    let s' : List ℕ = put_mid (m + p) (length l) y l in
-    let low : take (m + p) s' ≡ take (m + p) y = take-put_mid_below (m + p) (length l) y l (m + p) (omega arith) (omega arith) in
-    let ls : length s' ≡ length s = length-mid (m + p) (length l) y l refl (omega arith) ∙ ly in
     let lt : length (drop m s') ≡ length (drop m s) = simp length-drop (omega arith) in
-    let q : take p (drop m s') ≡ take p (drop m s) =
-    sym (drop-take m p s') ∙ (ap (λ z. drop m z) low ∙ (drop-take m p y ∙ ap (λ z. take p z) dy)) in
-    let r : take (length l) (drop p (drop m s')) ≡ l =
-    ap (λ z. take (length l) z) (drop-drop p m s') ∙ (rw k at (between-put_mid (m + p) (length l) y l (m + p + length l) (omega arith) (omega arith))) in
-    let gy : (j : ℕ) → j < m → get_or s' j 0 ≡ get_or y j 0 =
-    λ j lj. sym (get_or-take (m + p) s' j 0 (omega arith)) ∙ (ap (λ z. get_or z j 0) low ∙ get_or-take (m + p) y j 0 (omega arith)) in
-    let wy : (i : ℕ) → i < limit → (p : ℕ) → length_at s' i p ≡ length_at y i p = λ i li. entry_same y s' i (λ j lj. gy j (omega arith)) in
+    let lf : length (take (4 * n) s) ≡ 4 * n = omega (arith, length-take (4 * n) s) in
+    let low : take (4 * n) s' ≡ take (4 * n) s =
+    sym (take-take (4 * n) (4 * n + 4) s' (omega arith)) ∙ ap (λ z. take (4 * n) z) front ∙ take_at (take (4 * n) s) (word_of p ++ word_of (length l)) (4 * n) lf in
+    let new : take 4 (drop (4 * n) s') ≡ word_of p ++ word_of (length l) =
+    sym (drop-take (4 * n) 4 s') ∙ ap (λ z. drop (4 * n) z) front ∙ drop_at (take (4 * n) s) (word_of p ++ word_of (length l)) (4 * n) lf in
     let fit : ends s (length (drop m s)) n + length l ≤ length (drop m s) = omega (arith, length-drop m s) in
-    rw (el, k) (grown (indexed_lines limit) (IndexedLaid limit) s s' n l
+    grown (indexed_lines limit) (IndexedLaid limit) s s' n l
     (walk_push s s' (drop m s) (drop m s') l n
-    (λ i li z. wy i (omega arith) z ∙ word_entry s n (p % 256) (p / 256) (length l % 256) (length l / 256) i li z)
-    (ap (length_at s' n) (sym e) ∙ wy n h p ∙ word_new s n p (length l) (omega arith))
+    (λ i li z. entry_same s s' (4 * n) i (omega arith) low z)
+    (ap (length_at s' n) (sym e) ∙ sym (entry_alone s' n p) ∙ ap (λ x. length_at x 0 p) new ∙ entry_new p (length l))
     lt (rw (← e) q) (rw (← e) r) le parts.1 fit)
     (λ w.
-    let used : total (indexed_lines limit s n) ≡ p = total-walk s (drop m s) n ∙ sym e in
-    let front : take (4 * n + 4) s' ≡ take (4 * n) s ++ (word_of p ++ word_of (length l)) =
-    sym (take-take (4 * n + 4) (m + p) s' (omega arith)) ∙ ap (λ z. take (4 * n + 4) z) low ∙ take-take (4 * n + 4) (m + p) y (omega arith)
-    ∙ take-entry s n (p % 256) (p / 256) (length l % 256) (length l / 256) (omega arith) in (
+    let used : total (indexed_lines limit s n) ≡ p = total-walk s (drop m s) n ∙ sym e in (
       index_more s s' (indexed_lines limit s n) l n p (indexed_counted limit s n) used front w.0,
       text_more (drop m s) (drop m s') (indexed_lines limit s n) l p used q r w.1,
-    )))
+    ))
 
-pub fetch_more : (s buf : List ℕ) (j : ℕ) → j < length s → j < length buf → set (map clean (take j s) ++ drop j buf) j (clean (get_or s j 0)) ≡ map clean (take (j + 1) s) ++ drop (j + 1) buf
-fetch_more s buf j h k =
-    let m : length (map clean (take j s)) ≡ j = simp (length-map, length-take) (omega arith) in
-    let a : set (map clean (take j s) ++ (get_or buf j 0 ∷ drop (j + 1) buf)) j (clean (get_or s j 0)) ≡ map clean (take j s) ++ (clean (get_or s j 0) ∷ drop (j + 1) buf) = set_at (map clean (take j s)) (get_or buf j 0) (drop (j + 1) buf) (clean (get_or s j 0)) j m in
-    rw (drop_more buf j 0 k) (a ∙ sym (rw (map_more clean s j 0 h) (append_assoc (map clean (take j s)) (clean (get_or s j 0) ∷ []) (drop (j + 1) buf))))
-
-pub fetched : (x t buf : List ℕ) (i p j : ℕ) → p ≡ ends x (length t) i → j ≡ span x (length t) i p → map clean (take j (drop p t)) ++ drop j buf ≡ fronted (line_at x t i) buf
-fetched x t buf i p j e s =
-    let m : length (line_at x t i) ≡ j = length-line_at x t i ∙ sym (s ∙ ap (λ q. span x (length t) i q) e) in
-    let l : line_at x t i ≡ map clean (take j (drop p t)) = rw (s, e) refl in
-    ap (λ z. z ++ drop j buf) (sym l) ∙ ap (λ k. line_at x t i ++ drop k buf) (sym m)
-
-pub line_of-walk : (x t : List ℕ) (n i : ℕ) → (i ≡ 0 → ⊥) → i ≤ n → line_of (walk x t n) i ≡ line_at x t (i - 1)
-line_of-walk x t n i z h = get_or-firsts (λ j. line_at x t j) n (i - 1) (omega arith)
+-- the bytes of a sheet after both writes
+pub stored_in : (s y l l' four : List ℕ) (limit n p e : ℕ) → p ≡ ends s (length (drop (4 * limit) s)) n → four ≡ word_of p ++ word_of (length l) → y ≡ written s (4 * n) four → l' ≡ l → 4 * limit + p + length l ≡ e → e ≤ length s → n < limit → is_line l ≡ true → Grown (indexed_lines limit) (IndexedLaid limit) s (put_mid (4 * limit + p) (e - (4 * limit + p)) y l') n l
+stored_in s y l l' four limit n p e at w wy el ends-at f h g =
+    let m : ℕ = 4 * limit in
+    let lw : length four ≡ 4 = ap length w in
+    let s' : List ℕ = written y (m + p) l in
+    let ly : length y ≡ length s = ap length wy ∙ length-mid (4 * n) (length four) s four refl (omega arith) in
+    let ls : length s' ≡ length s = length-mid (m + p) (length l) y l refl (omega arith) ∙ ly in
+    let low : take (m + p) s' ≡ take (m + p) y = take-put_mid_below (m + p) (length l) y l (m + p) (omega arith) (omega arith) in
+    let dy : drop m y ≡ drop m s = ap (λ z. drop m z) wy ∙ drop-put_mid (4 * n) (length four) s four m (omega arith) (omega arith) refl in
+    let q : take p (drop m s') ≡ take p (drop m s) = sym (drop-take m p s') ∙ (ap (λ z. drop m z) low ∙ (drop-take m p y ∙ ap (λ z. take p z) dy)) in
+    let k : m + p + length l - (m + p) ≡ length l = omega arith in
+    let r : take (length l) (drop p (drop m s')) ≡ l =
+    ap (λ z. take (length l) z) (drop-drop p m s') ∙ (rw k at (between-put_mid (m + p) (length l) y l (m + p + length l) (omega arith) (omega arith))) in
+    let front : take (4 * n + 4) s' ≡ take (4 * n) s ++ (word_of p ++ word_of (length l)) =
+    sym (take-take (4 * n + 4) (m + p) s' (omega arith)) ∙ ap (λ z. take (4 * n + 4) z) low ∙ take-take (4 * n + 4) (m + p) y (omega arith)
+    ∙ ap (λ z. take (4 * n + 4) z) wy ∙ take-put_mid (4 * n) (length four) s four (4 * n + 4) (omega arith) (omega arith) ∙ ap (λ z. take (4 * n) s ++ z) w in
+    subst (λ z. Grown (indexed_lines limit) (IndexedLaid limit) s z n l) (sym (overwritten y l l' (m + p) e el ends-at)) (stored s s' l limit n p at ls front q r (omega arith) h g)
 
 pub ends_mono : (x : List ℕ) (room i j : ℕ) → i ≤ j → ends x room i ≤ ends x room j
 ends_mono x room i zero h = let e : i ≡ 0 = omega arith in rw e (omega arith)
@@ -261,18 +225,19 @@ module _ (x x' t t' l : List ℕ) (n i : ℕ) (w : (k : ℕ) → k < n → (p : 
   pub walk_set : walk x' t' n ≡ set (walk x t n) i l
   walk_set = firsts_set (λ j. line_at x t j) (λ j. line_at x' t' j) n i l h line_new line_old
 
-pub changed : (s l l' : List ℕ) (limit n i p k : ℕ) → p ≡ ends s (length (drop (4 * limit) s)) i → k ≡ span s (length (drop (4 * limit) s)) i p → l' ≡ l → length l ≡ k → n ≤ limit → 4 * limit ≤ length s → i < n → is_line l ≡ true → Changed (indexed_lines limit) (IndexedLaid limit) s (put_mid (4 * limit + p) (4 * limit + p + k - (4 * limit + p)) s l') n i l
-changed s l l' limit n i p k e f el lk nl big h g =
+-- line i is overwritten by one of its length
+pub indexed_turned : (s l : List ℕ) (limit n i p : ℕ) → p ≡ ends s (length (drop (4 * limit) s)) i → length l ≡ span s (length (drop (4 * limit) s)) i p → n ≤ limit → 4 * limit ≤ length s → i < n → is_line l ≡ true → Turned indexed_lines IndexedLaid limit s n i (4 * limit + p) l
+indexed_turned s l limit n i p e lk nl big h g =
     let parts = and_parts (leb (length l) 240) (no_lf l) g in
     let m : ℕ = 4 * limit in
+    let k : ℕ = length l in
     let t : List ℕ = drop m s in
     let lt : length t ≡ length s - m = length-drop m s in
     let pr = ends_le s (length t) i in
-    let j : m + p + k - (m + p) ≡ k = omega arith in
-    let s' : List ℕ = put_mid (m + p) k s l in
+    let s' : List ℕ = written s (m + p) l in
     let fit : m + p + k ≤ length s = omega arith in
     let low : take (m + p) s' ≡ take (m + p) s = take-put_mid_below (m + p) k s l (m + p) (omega arith) (omega arith) in
-    let ls : length s' ≡ length s = length-mid (m + p) k s l lk fit in
+    let ls : length s' ≡ length s = length-mid (m + p) k s l refl fit in
     let lt' : length (drop m s') ≡ length (drop m s) = simp length-drop (omega arith) in
     let q : take p (drop m s') ≡ take p (drop m s) = sym (drop-take m p s') ∙ (ap (λ z. drop m z) low ∙ drop-take m p s) in
     let b : take (m + p + k - (m + p)) (drop (m + p) s') ≡ l = between-put_mid (m + p) k s l (m + p + k) (omega arith) (omega arith) in
@@ -280,12 +245,10 @@ changed s l l' limit n i p k e f el lk nl big h g =
     let r : take (length l) (drop p (drop m s')) ≡ l = ap (λ z. take (length l) z) (drop-drop p m s') ∙ (ap (λ z. take z (drop (m + p) s')) (sym jl) ∙ b) in
     let o : m + (p + length l) ≡ m + p + k = omega arith in
     let u : drop (p + length l) (drop m s') ≡ drop (p + length l) (drop m s) =
-    drop-drop (p + length l) m s' ∙ (ap (λ z. drop z s') o ∙ (drop-put_mid (m + p) k s l (m + p + k) (omega arith) (omega arith) lk ∙ (ap (λ z. drop z s) (sym o) ∙ sym (drop-drop (p + length l) m s)))) in
-    let gy : (v : ℕ) → v < m → get_or s' v 0 ≡ get_or s v 0 =
-    λ v lv. sym (get_or-take (m + p) s' v 0 (omega arith)) ∙ (ap (λ z. get_or z v 0) low ∙ get_or-take (m + p) s v 0 (omega arith)) in
-    let wy : (v : ℕ) → v < n → (p : ℕ) → length_at s' v p ≡ length_at s v p = λ v lv. entry_same s s' v (λ j lj. gy j (omega arith)) in
-    let size : length l ≡ span s (length t) i (ends s (length t) i) = lk ∙ (f ∙ ap (λ z. span s (length t) i z) e) in
-    rw (el, j) (turned (indexed_lines limit) (IndexedLaid limit) s s' n i l
+    drop-drop (p + length l) m s' ∙ (ap (λ z. drop z s') o ∙ (drop-put_mid (m + p) k s l (m + p + k) (omega arith) (omega arith) refl ∙ (ap (λ z. drop z s) (sym o) ∙ sym (drop-drop (p + length l) m s)))) in
+    let wy : (v : ℕ) → v < n → (p : ℕ) → length_at s' v p ≡ length_at s v p = λ v lv. entry_same s s' (m + p) v (omega arith) low in
+    let size : length l ≡ span s (length t) i (ends s (length t) i) = lk ∙ ap (λ z. span s (length t) i z) e in
+    turned indexed_lines IndexedLaid limit s n i (m + p) l
     (walk_set s s' t (drop m s') l n i wy lt' h (rw (← e) q) (rw (← e) r) (rw (← e) u) size parts.1)
     (λ w.
     let c : length (walk s t n) ≡ n = length-walk s t n in
@@ -293,7 +256,23 @@ changed s l l' limit n i p k e f el lk nl big h g =
     let front : length (joined [] (take i (walk s t n))) ≡ p =
     ap (λ ls. length (joined [] ls)) (take-firsts (λ v. line_at s t v) n i (omega arith)) ∙ length-plain (walk s t i) ∙ total-walk s t i ∙ sym e in
     let li = length-index 0 (walk s t n) in
-    let text : drop m s' ≡ put_mid p (length l) t l = drop_put m p k s l big ∙ ap (λ z. put_mid p z t l) (sym lk) in (
+    let text : drop m s' ≡ put_mid p (length l) t l = drop_put m p k s l big in (
       subst (λ z. Front z s') (sym (index_set 0 (walk s t n) i l (omega arith) old)) (front_kept (index_from 0 (walk s t n)) s s' (m + p) low (omega arith) w.0),
       subst (λ z. Front (joined [] (set (walk s t n) i l)) z) (sym text) (front_set [] t l (walk s t n) i p w.1 (omega arith) old (sym front)),
-    )))
+    ))
+
+-- line i as the part where it lies
+pub indexed_part : (s : List ℕ) (limit n i p k : ℕ) → p ≡ ends s (length (drop (4 * limit) s)) i → k ≡ span s (length (drop (4 * limit) s)) i p → i < n → map clean (take k (drop (4 * limit + p) s)) ≡ get_or (indexed_lines limit s n) i []
+indexed_part s limit n i p k e f h =
+    let t : List ℕ = drop (4 * limit) s in
+    sym (get_or-firsts (λ v. line_at s t v) n i h
+    ∙ ap (map clean) (ap (λ q. take (span s (length t) i q) (drop q t)) (sym e) ∙ ap (λ j. take j (drop p t)) (sym f) ∙ ap (take k) (drop-drop p (4 * limit) s)))
+
+-- where line i lies, as the code finds it by the entries that it cuts off the sheet
+pub placed : (s : List ℕ) (es : List (List ℕ)) (limit room i p k : ℕ) → length s ≡ 4 * limit + room → es ≡ first_chunks 4 (length s / 4) s → i < limit → p ≡ ends_in (take i es) room → k ≡ span (get_or es i []) room 0 p → (p ≡ ends s (length (drop (4 * limit) s)) i) × (k ≡ span s (length (drop (4 * limit) s)) i p)
+placed s es limit room i p k size cut h e f =
+    let n : ℕ = length s / 4 in
+    let long : length (drop (4 * limit) s) ≡ room = length-drop (4 * limit) s ∙ omega arith in (
+      e ∙ ap (λ x. ends_in (take i x) room) cut ∙ ends_entries n s room i (omega arith) ∙ ap (λ r. ends s r i) (sym long),
+      f ∙ ap (λ x. span (get_or x i []) room 0 p) cut ∙ span_entry n s [] room i p (omega arith) ∙ ap (λ r. span s r i p) (sym long),
+    )

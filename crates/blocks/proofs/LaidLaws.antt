@@ -1,22 +1,11 @@
 -- Laws of lines laid out in bytes. Assumes nothing.
-use Rattle.std.proofs.Common.{◌≡◌, ℕ, zero, suc, ◌+◌, ◌<◌, ◌≤◌, List, [], ◌∷◌, ◌++◌, length, get_or, take, drop, set, sym, refl, ap, ◌∙◌, subst, ⊎_elim, suc-add, zero-add, arith}
+use Rattle.std.proofs.Common.{◌≡◌, ℕ, zero, suc, ◌+◌, ◌-◌, ◌<◌, ◌≤◌, true, not, eqb, List, [], ◌∷◌, ◌++◌, map, length, get_or, take, drop, set, sym, refl, ap, ◌∙◌, subst, suc-add, zero-add, arith}
 use borrow.Rule.Slice.PartMut.{put_mid}
-use Rattle.std.proofs.lemmas.List.{append_assoc, append-nil, length-append, length-take, take-append-drop, take-append-le, take-take, take_all, take_at, drop_at}
-use Rattle.std.proofs.lemmas.Bool.{cases_eq}
-use Rattle.lines.specs.Lines.{Line, total}
-use Rattle.blocks.specs.Blocks.{firsts}
-use Rattle.blocks.specs.BlockLaws.{length-firsts}
-use Rattle.blocks.specs.Laid.{Front, joined}
-
-pub take-firsts : (f : ℕ → Line) (n i : ℕ) → i ≤ n → take i (firsts f n) ≡ firsts f i
-take-firsts f zero i h = let z : i ≡ 0 = omega arith in rw z refl
-take-firsts f (suc n) i h =
-    let l = length-firsts f n in
-    let k = length-firsts f (suc n) in
-    ⊎_elim
-    (λ (e : i ≡ suc n). rw e (take_all (suc n) (firsts f (suc n)) (omega arith)))
-    (λ ne. take-append-le i (firsts f n) (f n ∷ []) (omega (arith, ne)) ∙ take-firsts f n i (omega (arith, ne)))
-    (cases_eq i (suc n))
+use Rattle.std.proofs.lemmas.List.{append_assoc, append-nil, length-append, length-take, take-append-drop, take-take, take_at, drop_at}
+use Rattle.std.proofs.lemmas.Bool.{and_parts, not-true}
+use Rattle.lines.specs.Lines.{Line, no_lf, total}
+use Rattle.blocks.specs.Blocks.{Meaning, Laid}
+use Rattle.blocks.specs.Laid.{Front, joined, clean, written, Turned}
 
 -- bytes that begin with f, and what stands behind it
 pub front_split : (f s : List ℕ) → Front f s → s ≡ f ++ drop (length f) s
@@ -81,18 +70,26 @@ drop_put m p k s l h =
     ap (λ j. put_mid (j + p) k s l) (sym n) ∙ ap (λ z. put_mid (length a + p) k z l) (sym (take-append-drop m s)) ∙ put_past a p k (drop m s) l in
     ap (λ z. drop m z) w ∙ drop_at a (put_mid p k (drop m s) l) m n
 
--- a sheet whose bytes s are changed to s': one line more, and line i changed; in both the lines stay laid out
-module _ (lines : List ℕ → ℕ → List Line) (laid : List ℕ → List Line → Type 0) (s s' : List ℕ) (n : ℕ) where
-  pub record Grown (l : Line) : Type 0 where
-    pub taken : lines s' (n + 1) ≡ lines s n ++ (l ∷ [])
-    pub keeps : laid s (lines s n) → laid s' (lines s' (n + 1))
+-- a part from p to e that is overwritten whole
+pub overwritten : (s l l' : List ℕ) (p e : ℕ) → l' ≡ l → p + length l ≡ e → put_mid p (e - p) s l' ≡ written s p l
+overwritten s l l' p e is to = let k : e - p ≡ length l = omega arith in rw (is, k) refl
 
-  pub record Changed (i : ℕ) (l : Line) : Type 0 where
-    pub taken : lines s' n ≡ set (lines s n) i l
-    pub keeps : laid s (lines s n) → laid s' (lines s' n)
+-- a sheet whose bytes s are changed to s', with one line more; the lines stay laid out
+pub record Grown (lines : List ℕ → ℕ → List Line) (laid : List ℕ → List Line → Type 0) (s s' : List ℕ) (n : ℕ) (l : Line) : Type 0 where
+  pub taken : lines s' (n + 1) ≡ lines s n ++ (l ∷ [])
+  pub keeps : laid s (lines s n) → laid s' (lines s' (n + 1))
 
-  pub grown : (l : Line) → lines s' (n + 1) ≡ lines s n ++ (l ∷ []) → (laid s (lines s n) → laid s' (lines s n ++ (l ∷ []))) → Grown l
-  grown l e f = record { taken = e; keeps = λ h. subst (λ ls. laid s' ls) (sym e) (f h) }
+pub grown : (lines : List ℕ → ℕ → List Line) (laid : List ℕ → List Line → Type 0) (s s' : List ℕ) (n : ℕ) (l : Line) → lines s' (n + 1) ≡ lines s n ++ (l ∷ []) → (laid s (lines s n) → laid s' (lines s n ++ (l ∷ []))) → Grown lines laid s s' n l
+grown lines laid s s' n l e f = record { taken = e; keeps = λ h. subst (λ ls. laid s' ls) (sym e) (f h) }
 
-  pub turned : (i : ℕ) (l : Line) → lines s' n ≡ set (lines s n) i l → (laid s (lines s n) → laid s' (set (lines s n) i l)) → Changed i l
-  turned i l e f = record { taken = e; keeps = λ h. subst (λ ls. laid s' ls) (sym e) (f h) }
+pub turned : (lines : Meaning) (laid : Laid) (L : ℕ) (s : List ℕ) (n i p : ℕ) (l : Line) → lines L (written s p l) n ≡ set (lines L s n) i l → (laid L s (lines L s n) → laid L (written s p l) (set (lines L s n) i l)) → Turned lines laid L s n i p l
+turned lines laid L s n i p l e f = record { taken = e; keeps = λ h. subst (λ ls. laid L (written s p l) ls) (sym e) (f h) }
+
+-- a line is as it was read, where it has no LF
+pub clean_same : (l : List ℕ) → no_lf l ≡ true → map clean l ≡ l
+clean_same [] h = refl
+clean_same (b ∷ bs) h =
+    let p = and_parts (not (eqb b 10)) (no_lf bs) h in
+    let n = not-true (eqb b 10) p.0 in
+    let r = clean_same bs p.1 in
+    rw (n, r) refl

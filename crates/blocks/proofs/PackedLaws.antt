@@ -1,21 +1,22 @@
 -- Laws of what a packed sheet means. Assumes nothing.
-use Rattle.std.proofs.Common.{◌≡◌, ℕ, zero, suc, ◌+◌, ◌-◌, ◌<◌, ◌≤◌, min, true, false, not, eqb, leb, ◌⊎◌, List, [], ◌∷◌, ◌++◌, length, get_or, take, drop, set, sym, refl, ap, ◌∙◌, subst, inl, inr, ⊎_elim, suc-add, zero-add, add-one, arith}
+use Rattle.std.proofs.Common.{◌≡◌, ℕ, zero, suc, ◌+◌, ◌-◌, ◌<◌, ◌≤◌, min, true, false, not, eqb, leb, ◌⊎◌, List, [], ◌∷◌, ◌++◌, map, length, get_or, take, drop, set, sym, refl, ap, ◌∙◌, subst, ⊎_elim, suc-add, zero-add, add-one, arith}
 use borrow.Rule.Slice.PartMut.{put_mid}
-use Rattle.std.proofs.lemmas.List.{append_assoc, length-take, length-drop, length-set, take-take, take_all, at_drop_more, at_drop_all, drop_more, drop-set-add, set_at, take-set-le, drop_at, take_at, take-append-drop, drop-drop, nil_from_length, set-get_or}
+use Rattle.std.proofs.lemmas.List.{append_assoc, length-take, length-drop, length-set, take-take, take_all, drop_more, drop-set-add, set_at, take-set-le, drop_at, take_at, take-append-drop, drop-drop, drop_min, take_rest, nil_from_length, set-get_or}
+use Rattle.std.proofs.Math.Seq.{drop-append-add}
 use Rattle.std.proofs.lemmas.Slice.{take-put_mid_below}
-use Rattle.std.proofs.lemmas.Bool.{eq-eqb, ne_eqb, and_parts, not-true, leb-true, cases_lt, cases_eq, cases_order, cases_Bool}
+use Rattle.std.proofs.lemmas.Bool.{and_parts, not-true, leb-true, cases_lt, cases_eq, cases_order, cases_Bool}
 use Rattle.lines.specs.Lines.{no_lf, is_line, total}
 use Rattle.blocks.specs.Packed.{upto, reach, stops, packed_line, packed_lines, PackedLaid}
-use Rattle.blocks.specs.PackedLaws.{upto_le, no_lf-upto, packed_counted}
-use Rattle.blocks.specs.Laid.{Front, joined}
-use Rattle.blocks.proofs.LaidLaws.{take-firsts, front_of, front_more, front_kept, front_set, length-ended, joined_push, Grown, Changed, grown, turned}
-use Rattle.blocks.proofs.PartLaws.{get_or-firsts, firsts_set, part_same, total_push, length-mid}
+use Rattle.blocks.specs.PackedLaws.{upto_le, upto_stop, upto_go, no_lf-upto, packed_counted}
+use Rattle.blocks.specs.Laid.{Front, joined, clean, written, Turned}
+use Rattle.blocks.proofs.LaidLaws.{front_of, front_more, front_kept, front_set, length-ended, joined_push, Grown, grown, turned, clean_same}
+use Rattle.blocks.proofs.PartLaws.{get_or-firsts, take-firsts, firsts_set, part_same, total_push, length-mid}
 
 pub reach_le : (s : List ℕ) (p : ℕ) → reach s p ≤ length s - p
 reach_le s p = let h = upto_le (take 240 (drop p s)) in omega (arith, length-take 240 (drop p s), length-drop p s)
 
-pub reach_short : (s : List ℕ) (p : ℕ) → reach s p ≤ 240
-reach_short s p = let h = upto_le (take 240 (drop p s)) in omega (arith, length-take 240 (drop p s))
+pub reach_rest : (s : List ℕ) (p a : ℕ) → a ≡ min p (length s) → upto (take 240 (take (length s - a) (drop a s))) ≡ reach s p
+reach_rest s p a e = ap (λ z. upto (take 240 z)) (take_rest s a ∙ ap (λ q. drop q s) e ∙ drop_min p s)
 
 pub length-packed_line : (s : List ℕ) (n : ℕ) → length (packed_line s n) ≡ reach s (stops s n)
 length-packed_line s n = let h = reach_le s (stops s n) in omega (arith, length-take (reach s (stops s n)) (drop (stops s n) s), length-drop (stops s n) s)
@@ -23,12 +24,6 @@ length-packed_line s n = let h = reach_le s (stops s n) in omega (arith, length-
 pub total_packed : (s : List ℕ) (n : ℕ) → total (packed_lines s n) + n ≡ stops s n
 total_packed s zero = refl
 total_packed s (suc n) = let h = total_packed s n in let l = length-packed_line s n in omega (arith, total_push (packed_lines s n) (packed_line s n))
-
-pub upto_stop : (x : ℕ) (xs : List ℕ) → eqb x 10 ≡ true → upto (x ∷ xs) ≡ 0
-upto_stop x xs e = rw e refl
-
-pub upto_go : (x : ℕ) (xs : List ℕ) → eqb x 10 ≡ false → upto (x ∷ xs) ≡ suc (upto xs)
-upto_go x xs e = rw e refl
 
 -- the bytes before the first LF are settled by those and one more
 pub upto_same : (xs ys : List ℕ) → length xs ≡ length ys → take (suc (upto xs)) xs ≡ take (suc (upto xs)) ys → upto ys ≡ upto xs
@@ -83,14 +78,23 @@ packed_same s s' (suc n) l h =
     let m : packed_line s' n ≡ packed_line s n = rw (e, r) (part_same s s' (stops s n) (reach s (stops s n)) (stops s n + reach s (stops s n) + 1) (omega arith) h) in
     ap (λ a. a ++ (packed_line s' n ∷ [])) (packed_same s s' n l q) ∙ ap (λ b. packed_lines s n ++ (b ∷ [])) m
 
-pub upto_line : (l r : List ℕ) (m : ℕ) → no_lf l ≡ true → length l ≤ m → upto (take m (l ++ (10 ∷ r))) ≡ length l
-upto_line [] r zero c h = refl
-upto_line [] r (suc m) c h = refl
-upto_line (b ∷ bs) r zero c h = absurd (omega arith)
-upto_line (b ∷ bs) r (suc m) c h =
+-- a front without LF counts whole
+pub upto_front : (l r : List ℕ) (m : ℕ) → no_lf l ≡ true → length l ≤ m → upto (take m (l ++ r)) ≡ length l + upto (take (m - length l) r)
+upto_front [] r m c h = let z : m - 0 ≡ m = omega arith in let y : ℕ = upto (take m r) in sym (ap (λ k. 0 + upto (take k r)) z ∙ zero-add y)
+upto_front (b ∷ bs) r zero c h = absurd (omega arith)
+upto_front (b ∷ bs) r (suc m) c h =
     let p = and_parts (not (eqb b 10)) (no_lf bs) c in
     let e = not-true (eqb b 10) p.0 in
-    upto_go b (take m (bs ++ (10 ∷ r))) e ∙ ap suc (upto_line bs r m p.1 (omega arith))
+    let ih = upto_front bs r m p.1 (omega arith) in
+    let z : suc m - suc (length bs) ≡ m - length bs = omega arith in
+    upto_go b (take m (bs ++ r)) e ∙ ap suc ih ∙ sym (ap (λ k. suc (length bs) + upto (take k r)) z ∙ suc-add (length bs) (upto (take (m - length bs) r)))
+
+lf_first : (m : ℕ) (r : List ℕ) → upto (take m (10 ∷ r)) ≡ 0
+lf_first zero r = refl
+lf_first (suc m) r = refl
+
+upto_line : (l r : List ℕ) (m : ℕ) → no_lf l ≡ true → length l ≤ m → upto (take m (l ++ (10 ∷ r))) ≡ length l
+upto_line l r m c h = upto_front l (10 ∷ r) m c h ∙ ap (λ k. length l + k) (lf_first (m - length l) r) ∙ omega arith
 
 -- one line more
 pub packed_push : (s s' l r : List ℕ) (n : ℕ) → length s' ≡ length s → take (stops s n) s' ≡ take (stops s n) s → drop (stops s n) s' ≡ l ++ (10 ∷ r) → is_line l ≡ true → packed_lines s' (n + 1) ≡ packed_lines s n ++ (l ∷ [])
@@ -128,28 +132,6 @@ stored s l l' n p e el f g =
     let dn : drop (stops s n) s' ≡ l ++ (10 ∷ drop 1 rest) = rw (← e) d in
     rw (el, k) (grown packed_lines PackedLaid s s' n l (packed_push s s' l (drop 1 rest) n ls qn dn g) (laid_push s s' l (drop 1 rest) n qn dn))
 
--- a scan: bytes before k are none of them LF
-pub scan_more : (xs : List ℕ) (k : ℕ) → k < length xs → (get_or xs k 0 ≡ 10 → ⊥) → k + 1 + upto (drop (k + 1) xs) ≡ k + upto (drop k xs)
-scan_more xs k h ne =
-    let e : upto (drop k xs) ≡ upto (get_or xs k 0 ∷ drop (k + 1) xs) = at_drop_more upto xs k 0 h in
-    let u = upto_go (get_or xs k 0) (drop (k + 1) xs) (ne_eqb (get_or xs k 0) 10 ne) in
-    omega arith
-
-pub scan_stop : (xs : List ℕ) (k : ℕ) → (length xs ≤ k) ⊎ ((k < length xs) × (get_or xs k 0 ≡ 10)) → upto (drop k xs) ≡ 0
-scan_stop xs k (inl h) = at_drop_all upto xs k h
-scan_stop xs k (inr h) = at_drop_more upto xs k 0 h.0 ∙ upto_stop (get_or xs k 0) (drop (k + 1) xs) (eq-eqb (get_or xs k 0) 10 h.1)
-
--- a front without LF counts whole
-pub upto_front : (l r : List ℕ) (m : ℕ) → no_lf l ≡ true → length l ≤ m → upto (take m (l ++ r)) ≡ length l + upto (take (m - length l) r)
-upto_front [] r m c h = let z : m - 0 ≡ m = omega arith in let y : ℕ = upto (take m r) in sym (ap (λ k. 0 + upto (take k r)) z ∙ zero-add y)
-upto_front (b ∷ bs) r zero c h = absurd (omega arith)
-upto_front (b ∷ bs) r (suc m) c h =
-    let p = and_parts (not (eqb b 10)) (no_lf bs) c in
-    let e = not-true (eqb b 10) p.0 in
-    let ih = upto_front bs r m p.1 (omega arith) in
-    let z : suc m - suc (length bs) ≡ m - length bs = omega arith in
-    upto_go b (take m (bs ++ r)) e ∙ ap suc ih ∙ sym (ap (λ k. suc (length bs) + upto (take k r)) z ∙ suc-add (length bs) (upto (take (m - length bs) r)))
-
 stops_mono : (s : List ℕ) (i j : ℕ) → i ≤ j → stops s i ≤ stops s j
 stops_mono s i zero h = let e : i ≡ 0 = omega arith in rw e (omega arith)
 stops_mono s i (suc j) h =
@@ -159,9 +141,7 @@ stops_mono s i (suc j) h =
     (cases_eq i (suc j))
 
 drop_past : (l r : List ℕ) (k : ℕ) → length l ≤ k → drop k (l ++ r) ≡ drop (k - length l) r
-drop_past l r k h =
-    let e : length l + (k - length l) ≡ k = omega arith in
-    ap (λ z. drop z (l ++ r)) (sym e) ∙ sym (drop-drop (k - length l) (length l) (l ++ r)) ∙ ap (drop (k - length l)) (drop_at l r (length l) refl)
+drop_past l r k h = let e : length l + (k - length l) ≡ k = omega arith in ap (λ z. drop z (l ++ r)) (sym e) ∙ drop-append-add l r (k - length l)
 
 -- line i's bytes are changed to those of l, which are as many
 module _ (s s' l : List ℕ) (i : ℕ) (ls : length s' ≡ length s) (size : length l ≡ reach s (stops s i)) (inside : stops s i ≤ length s) (low : take (stops s i) s' ≡ take (stops s i) s) (at : drop (stops s i) s' ≡ l ++ drop (stops s i + length l) s) (g : is_line l ≡ true) where
@@ -233,39 +213,49 @@ laid_set s l n i p e h size w =
     ap (λ ls. length (joined (10 ∷ []) ls)) (take-firsts (λ j. packed_line s j) n i (omega arith)) ∙ omega (arith, length-ended (packed_lines s i), packed_counted s i, total_packed s i) in
     front_set (10 ∷ []) s l (packed_lines s n) i p w (omega arith) (size ∙ sym old) (e ∙ sym front)
 
-pub changed : (s l l' : List ℕ) (n i p k : ℕ) → p ≡ stops s i → k ≡ reach s p → l' ≡ l → length l ≡ k → 0 < k → i < n → is_line l ≡ true → Changed packed_lines PackedLaid s (put_mid p (p + k - p) s l') n i l
-changed s l l' n i p k e f el lk pos h g =
-    let r = reach_le s p in
-    let j : p + k - p ≡ k = omega arith in
-    let s' : List ℕ = put_mid p k s l in
-    let fit : p + k ≤ length s = omega arith in
-    let lp : length (take p s) ≡ p = omega (arith, length-take p s) in
-    let low : take p s' ≡ take p s = take-put_mid_below p k s l p (omega arith) (omega arith) in
-    let ls : length s' ≡ length s = length-mid p k s l lk fit in
-    let at : drop p s' ≡ l ++ drop (p + length l) s = drop_at (take p s) (l ++ drop k (drop p s)) p lp ∙ ap (λ z. l ++ z) (drop-drop k p s ∙ ap (λ z. drop (p + z) s) (sym lk)) in
-    let size : length l ≡ reach s (stops s i) = lk ∙ f ∙ ap (reach s) e in
-    rw (el, j) (turned packed_lines PackedLaid s s' n i l (packed_set s s' l i ls size (rw (← e) (omega arith)) (rw (← e) low) (rw (← e) at) g n h)
-    (λ w. subst (λ z. PackedLaid (put_mid p z s l) (set (packed_lines s n) i l)) lk (laid_set s l n i p e h size w)))
-
 -- a line without bytes in the place of one
-pub unchanged : (s l : List ℕ) (n i : ℕ) → i < n → length l ≡ 0 → reach s (stops s i) ≡ 0 → packed_lines s n ≡ set (packed_lines s n) i l
+unchanged : (s l : List ℕ) (n i : ℕ) → i < n → length l ≡ 0 → reach s (stops s i) ≡ 0 → packed_lines s n ≡ set (packed_lines s n) i l
 unchanged s l n i h z e =
     let a : l ≡ [] = nil_from_length l z in
     let b : packed_line s i ≡ [] = ap (λ k. take k (drop (stops s i) s)) e in
     sym (ap (λ x. set (packed_lines s n) i x) (a ∙ sym b ∙ sym (get_or-firsts (λ j. packed_line s j) n i h)) ∙ set-get_or (packed_lines s n) i [])
 
--- line i as the part that starts at p, or at the end
-pub line_part : (s : List ℕ) (i p k a : ℕ) → p ≡ stops s i → k ≡ reach s p → a ≡ min p (length s) → take (a + k - a) (drop a s) ≡ packed_line s i
-line_part s i p k a e f m =
+-- line i is overwritten by one of its length; it lies behind the sheet where the sheet has no such line
+packed_turned_at : (L : ℕ) (s l : List ℕ) (n i : ℕ) → length l ≡ reach s (stops s i) → i < n → is_line l ≡ true → Turned (λ _ s n. packed_lines s n) (λ _ s ls. PackedLaid s ls) L s n i (min (stops s i) (length s)) l
+packed_turned_at L s l n i size h g =
+    let p : ℕ = stops s i in
     let r = reach_le s p in
-    let j : a + k - a ≡ k = omega arith in
-    ap (λ z. take z (drop a s)) j ∙
     ⊎_elim
     (λ (o : length s < p).
-    let z : k ≡ 0 = omega arith in
-    let y : reach s (stops s i) ≡ 0 = sym (ap (reach s) e) ∙ sym f ∙ z in
-    ap (λ x. take x (drop a s)) z ∙ sym (ap (λ x. take x (drop (stops s i) s)) y))
+    let z : length l ≡ 0 = omega arith in
+    let a : min p (length s) ≡ length s = omega arith in
+    let same : written s (length s) l ≡ s = let x : l ≡ [] = nil_from_length l z in rw x (take-append-drop (length s) s) in
+    let e = unchanged s l n i h z (omega arith) in
+    rw a (turned (λ _ s n. packed_lines s n) (λ _ s ls. PackedLaid s ls) L s n i (length s) l (ap (λ x. packed_lines x n) same ∙ e) (λ w. subst (λ x. PackedLaid x (set (packed_lines s n) i l)) (sym same) (subst (PackedLaid s) e w))))
     (λ (o : p ≤ length s).
-    let b : a ≡ p = omega arith in
-    (λ t. take (f t) (drop (b t) s)) ∙ ap (λ q. take (reach s q) (drop q s)) e)
+    let a : min p (length s) ≡ p = omega arith in
+    let s' : List ℕ = written s p l in
+    let fit : p + length l ≤ length s = omega arith in
+    let lp : length (take p s) ≡ p = omega (arith, length-take p s) in
+    let low : take p s' ≡ take p s = take-put_mid_below p (length l) s l p (omega arith) (omega arith) in
+    let ls : length s' ≡ length s = length-mid p (length l) s l refl fit in
+    let at : drop p s' ≡ l ++ drop (p + length l) s = drop_at (take p s) (l ++ drop (length l) (drop p s)) p lp ∙ ap (λ z. l ++ z) (drop-drop (length l) p s) in
+    rw a (turned (λ _ s n. packed_lines s n) (λ _ s ls. PackedLaid s ls) L s n i p l (packed_set s s' l i ls size o low at g n h) (λ w. laid_set s l n i p refl h size w)))
     (cases_lt (length s) p)
+
+-- line i, which lies at a with k bytes
+module _ (s : List ℕ) (n i p a k : ℕ) (is : p ≡ stops s i) (at : a ≡ min p (length s)) (size : k ≡ upto (take 240 (take (length s - a) (drop a s)))) (h : i < n) where
+  length_is : k ≡ reach s (stops s i)
+  length_is = size ∙ reach_rest s p a at ∙ ap (reach s) is
+
+  place_is : a ≡ min (stops s i) (length s)
+  place_is = at ∙ ap (λ q. min q (length s)) is
+
+  pub packed_part : map clean (take k (drop a s)) ≡ get_or (packed_lines s n) i []
+  packed_part =
+      ap (λ q. map clean (take q (drop a s))) length_is ∙ ap (λ q. map clean (take (reach s (stops s i)) (drop q s))) place_is
+      ∙ ap (λ z. map clean (take (reach s (stops s i)) z)) (drop_min (stops s i) s) ∙ clean_same (packed_line s i) (no_lf-upto 240 (drop (stops s i) s))
+      ∙ sym (get_or-firsts (λ j. packed_line s j) n i h)
+
+  pub packed_turned : (L : ℕ) (l : List ℕ) → length l ≡ k → is_line l ≡ true → Turned (λ _ s n. packed_lines s n) (λ _ s ls. PackedLaid s ls) L s n i a l
+  packed_turned L l e g = rw place_is (packed_turned_at L s l n i (e ∙ length_is) h g)

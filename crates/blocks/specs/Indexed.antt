@@ -9,7 +9,7 @@
 -- span x room i p      the length of line i, which starts at p, in a text of `room` bytes: that of the index, at most 240
 --                      and at most what is left
 -- ends x room n        where line n, counted from 0, starts: where the one before it ends
--- clean b              a byte of a line: a stray LF is read as 0
+-- ends_in es room      where the line behind those of the index entries es starts: each is an index of one line
 -- line_at x t n        line n of the text t
 -- walk x t n           the first n lines
 -- indexed_lines L s n  the first n lines of a sheet
@@ -18,15 +18,13 @@
 -- index_from p ls      the index of the lines ls, of which the first starts at p
 -- IndexedLaid L s ls   the sheet s begins with the index of the lines ls, and its text with their bytes
 use Rattle.std.specs.Prelude.{ℕ, zero, suc, ◌+◌, ◌-◌, ◌*◌, ◌/◌, ◌%◌, min, cond, List, [], ◌∷◌, ◌++◌, map, length, take, drop, ◌==◌, slice_index}
+use Rattle.std.specs.List.{fold}
 use Rattle.lines.specs.Lines.{Line}
 use Rattle.blocks.specs.Blocks.{firsts}
-use Rattle.blocks.specs.Laid.{Front, joined}
+use Rattle.blocks.specs.Laid.{Front, joined, clean}
 
 abbrev pub word : List ℕ → ℕ → ℕ
 word x p = slice_index x p + 256 * slice_index x (p + 1)
-
-abbrev pub clean : ℕ → ℕ
-clean b = cond (b == 10) 0 b
 
 abbrev pub length_at : List ℕ → ℕ → ℕ → ℕ
 length_at x i p = cond (word x (4 * i) == p) (word x (4 * i + 2)) 0
@@ -37,6 +35,9 @@ span x room i p = min (min (length_at x i p) 240) (room - p)
 abbrev pub ends : List ℕ → ℕ → ℕ → ℕ
 ends x room zero = 0
 ends x room (suc n) = ends x room n + span x room n (ends x room n)
+
+abbrev pub ends_in : List (List ℕ) → ℕ → ℕ
+ends_in es room = fold (λ p e. p + span e room 0 p) 0 es
 
 abbrev pub line_at : List ℕ → List ℕ → ℕ → Line
 line_at x t n = map clean (take (span x (length t) n (ends x (length t) n)) (drop (ends x (length t) n) t))

@@ -7,7 +7,8 @@ use Rattle.std.specs.List.{AllByRecursion}
 use Rattle.std.proofs.lemmas.List.{length-map, length-take}
 use Rattle.std.proofs.lemmas.Bool.{cases_Bool, cond-true, cond-false, and_from, not_from_false, le-leb}
 use Rattle.lines.specs.Lines.{no_lf, is_line, LawfulKind}
-use Rattle.blocks.specs.Indexed.{clean, span, ends, line_at, walk, indexed_lines, indexed_size, IndexedLaid}
+use Rattle.blocks.specs.Indexed.{span, ends, line_at, walk, indexed_lines, indexed_size, IndexedLaid}
+use Rattle.blocks.specs.Laid.{clean}
 use Rattle.blocks.specs.BlockLaws.{length-firsts, all_firsts}
 
 clean_apart : (b : ℕ) → (clean b == 10) ≡ false

@@ -9,14 +9,14 @@
 -- packed_lines s n  the first n lines
 -- packed_size L B   the bytes of a sheet
 -- PackedLaid s ls   the sheet s begins with the lines ls, each ended by LF
-use Rattle.std.specs.Prelude.{ℕ, zero, suc, ◌+◌, cond, List, [], ◌∷◌, take, drop, ◌==◌}
+use Rattle.std.specs.Prelude.{ℕ, zero, suc, ◌+◌, not, List, [], ◌∷◌, take, drop, ◌==◌}
+use Rattle.std.specs.List.{prefix_len}
 use Rattle.lines.specs.Lines.{Line}
 use Rattle.blocks.specs.Blocks.{firsts}
 use Rattle.blocks.specs.Laid.{Front, joined}
 
 abbrev pub upto : List ℕ → ℕ
-upto [] = 0
-upto (b ∷ bs) = cond (b == 10) 0 (suc (upto bs))
+upto xs = prefix_len (λ b. not (b == 10)) xs
 
 abbrev pub reach : List ℕ → ℕ → ℕ
 reach s p = upto (take 240 (drop p s))

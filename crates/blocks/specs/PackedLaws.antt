@@ -1,20 +1,24 @@
 -- The lines of a packed sheet are lines, whatever its bytes are. Assumes nothing.
 --
 -- packed_grows, packed_counted, packed_lawful, packed_laid, packed_kind  what a layout has to show, of this one
-use Rattle.std.specs.Prelude.{◌≡◌, ℕ, zero, suc, ◌≤◌, true, false, cond, not, List, [], ◌∷◌, length, take, drop, ◌==◌, nat_le, refl}
+use Rattle.std.specs.Prelude.{◌≡◌, ℕ, zero, suc, ◌+◌, ◌≤◌, true, false, not, List, [], ◌∷◌, length, take, drop, ◌==◌, nat_le, refl}
 use Rattle.std.proofs.Common.{ap, ◌∙◌, ⊎_elim, arith}
 use Rattle.std.specs.List.{AllByRecursion}
 use Rattle.std.proofs.lemmas.List.{length-take}
+use Rattle.std.proofs.lemmas.List.Sums.{prefix_len-le-length}
 use Rattle.std.proofs.lemmas.Bool.{cases_Bool, cond-true, cond-false, and_from, not_from_false, le-leb}
 use Rattle.lines.specs.Lines.{no_lf, is_line, LawfulKind}
 use Rattle.blocks.specs.Packed.{upto, stops, packed_line, packed_lines, packed_size, PackedLaid}
 use Rattle.blocks.specs.BlockLaws.{length-firsts, all_firsts}
 
 pub upto_le : (xs : List ℕ) → upto xs ≤ length xs
-upto_le [] = omega arith
-upto_le (b ∷ bs) =
-    let h = upto_le bs in
-    elim (b == 10) as (λ v. cond v 0 (suc (upto bs)) ≤ suc (length bs)) [ true ↦ omega arith | false ↦ omega arith ]
+upto_le xs = prefix_len-le-length (λ b. not (b == 10)) xs
+
+pub upto_stop : (b : ℕ) (bs : List ℕ) → (b == 10) ≡ true → upto (b ∷ bs) ≡ 0
+upto_stop b bs e = cond-false (not (b == 10)) (1 + upto bs) 0 (ap not e)
+
+pub upto_go : (b : ℕ) (bs : List ℕ) → (b == 10) ≡ false → upto (b ∷ bs) ≡ suc (upto bs)
+upto_go b bs e = cond-true (not (b == 10)) (1 + upto bs) 0 (not_from_false _ e) ∙ omega arith
 
 -- no LF stands before the first LF
 pub no_lf-upto : (m : ℕ) (xs : List ℕ) → no_lf (take (upto (take m xs)) xs) ≡ true
@@ -22,8 +26,8 @@ no_lf-upto zero xs = refl
 no_lf-upto (suc m) [] = refl
 no_lf-upto (suc m) (b ∷ bs) =
     ⊎_elim
-    (λ e. ap (λ k. no_lf (take k (b ∷ bs))) (cond-true (b == 10) 0 (suc (upto (take m bs))) e))
-    (λ e. ap (λ k. no_lf (take k (b ∷ bs))) (cond-false (b == 10) 0 (suc (upto (take m bs))) e) ∙ and_from (not (b == 10)) (no_lf (take (upto (take m bs)) bs)) (not_from_false _ e) (no_lf-upto m bs))
+    (λ e. ap (λ k. no_lf (take k (b ∷ bs))) (upto_stop b (take m bs) e))
+    (λ e. ap (λ k. no_lf (take k (b ∷ bs))) (upto_go b (take m bs) e) ∙ and_from (not (b == 10)) (no_lf (take (upto (take m bs)) bs)) (not_from_false _ e) (no_lf-upto m bs))
     (cases_Bool (b == 10))
 
 pub packed_line_is_line : (s : List ℕ) (n : ℕ) → is_line (packed_line s n) ≡ true

@@ -1,16 +1,14 @@
-ghost use Rattle.std.specs.Prelude.{◌≡◌, ℕ, ◌+◌, ◌-◌, ◌<◌, ◌≤◌, true, false, List, [], ◌∷◌, ◌++◌, length, ◌==◌, slice_set};
+ghost use Rattle.std.specs.Prelude.{◌≡◌, ℕ, ◌+◌, ◌-◌, ◌<◌, ◌≤◌, true, List, [], ◌∷◌, ◌++◌, map, length, take, drop, slice_index_or};
 ghost use Rattle.std.specs.List.{AllByRecursion};
-ghost use Rattle.lines.specs.Faults.{verdict, left};
-ghost use Rattle.lines.specs.Lines.{is_line, LawfulKind, line_of, fronted, room, read_refusal};
+ghost use Rattle.lines.specs.Lines.{is_line, LawfulKind, total};
+ghost use Rattle.blocks.specs.Laid.{clean, Turned};
 
-use lines::fault::Fault;
+use crate::tally::Tally;
+use std::ops::Range;
 
-// A value that only this crate can make: it keeps the functions of a layout, which require something, to this crate.
-#[derive(Clone, Copy)]
-pub struct Inside;
-
-// How the lines of a sheet lie in its bytes.
-pub trait Layout: Default {
+// How the lines of a sheet lie in its bytes. The trait has no name outside this crate, so its functions have no callers
+// there.
+pub(crate) trait Layout {
     // The bytes of a sheet, by its limit of lines and its limit of bytes.
     ghost size: { ℕ → ℕ → ℕ };
 
@@ -21,7 +19,7 @@ pub trait Layout: Default {
     ghost laid: { ℕ → List ℕ → List (List ℕ) → Type 0 };
 
     // The kind of a store with such sheets.
-    ghost kind: { ℕ };
+    ghost KIND: { ℕ };
 
     ghost grows: { (L B : ℕ) → size L 0 ≤ size L B };
 
@@ -31,68 +29,38 @@ pub trait Layout: Default {
 
     ghost laid_none: { (L : ℕ) (s : List ℕ) → laid L s [] };
 
-    ghost lawful_kind: { LawfulKind kind };
+    ghost lawful_kind: { LawfulKind KIND };
 
-    fn kind() -> u8
-        ensures { result ≡ kind };
+    const KIND: u8;
 
-    fn size(_inside: Inside, limit: usize, bytes: usize) -> usize
+    fn size(limit: usize, bytes: usize) -> usize
         requires few { limit ≤ 4000 }
         requires small { bytes ≤ 24000 }
         ensures is { result ≡ size limit bytes }
         ensures small { result ≤ 40000 };
 
-    // Puts line `number`, counted from 1, of the first `count` of a sheet at the front of the buffer.
-    fn read_line(
-        _inside: Inside,
-        sheet: &[u8],
-        limit: usize,
-        count: usize,
-        number: usize,
-        buf: &mut [u8],
-    ) -> Result<usize, Fault>
-        requires most { limit ≤ 4000 }
-        requires size { size limit 0 ≤ length sheet.now }
-        requires few { count ≤ limit }
-        ensures answer { result ≡ verdict (read_refusal (lines limit sheet.now count) number (length buf.old)) (length (line_of (lines limit sheet.now count) number)) }
-        ensures bytes { buf.new ≡ left (read_refusal (lines limit sheet.now count) number (length buf.old)) (fronted (line_of (lines limit sheet.now count) number) buf.old) buf.old };
+    // How many bytes the lines of a sheet have, LF not counted.
+    fn used(sheet: &[u8], tally: Tally) -> usize
+        requires size { length sheet.now ≡ size tally.lines tally.bytes }
+        ensures is { result ≡ total (lines tally.lines sheet.now tally.count) }
+        ensures small { result ≤ length sheet.now };
 
-    // Puts a line behind the first `count` of a sheet, where that passes no limit.
-    fn write_line(
-        _inside: Inside,
-        sheet: &mut [u8],
-        limit: usize,
-        bytes: usize,
-        count: usize,
-        line: &[u8],
-    ) -> bool
-        requires most { limit ≤ 4000 }
-        requires small { bytes ≤ 24000 }
-        requires size { length sheet.old ≡ size limit bytes }
-        requires few { count ≤ limit }
-        requires line { is_line line.now ≡ true }
-        ensures answer { result ≡ room (limit, bytes) (lines limit sheet.old count) line.now }
-        ensures taken { result ≡ true → lines limit sheet.new (count + 1) ≡ lines limit sheet.old count ++ (line.now ∷ []) }
-        ensures layout { result ≡ true → laid limit sheet.old (lines limit sheet.old count) → laid limit sheet.new (lines limit sheet.new (count + 1)) }
-        ensures kept { result ≡ false → sheet.new ≡ sheet.old };
+    // Where line `row` of a sheet lies, counted from 0. Any line of that length can be written there in its place.
+    fn place(sheet: &[u8], tally: Tally, row: usize) -> Range<usize>
+        requires size { length sheet.now ≡ size tally.lines tally.bytes }
+        requires row { row < tally.count }
+        ensures from { result.start ≤ result.end }
+        ensures to { result.end ≤ length sheet.now }
+        ensures line { map clean (take (result.end - result.start) (drop result.start sheet.now)) ≡ slice_index_or (lines tally.lines sheet.now tally.count) row [] }
+        ensures turns { (l : List ℕ) → is_line l ≡ true → length l ≡ result.end - result.start → Turned lines laid tally.lines sheet.now tally.count row result.start l };
 
-    // Replaces line `number` of the first `count` of a sheet by one of equal length.
-    fn change_line(
-        _inside: Inside,
-        sheet: &mut [u8],
-        limit: usize,
-        count: usize,
-        number: usize,
-        line: &[u8],
-    ) -> bool
-        requires most { limit ≤ 4000 }
-        requires size { size limit 0 ≤ length sheet.old }
-        requires few { count ≤ limit }
-        requires from { 0 < number }
-        requires to { number ≤ count }
+    // Puts a line behind those of a sheet, which have `used` bytes.
+    fn append(sheet: &mut [u8], tally: Tally, used: usize, line: &[u8])
+        requires size { length sheet.old ≡ size tally.lines tally.bytes }
+        requires used { used ≡ total (lines tally.lines sheet.old tally.count) }
+        requires few { tally.count < tally.lines }
+        requires room { used + length line.now ≤ tally.bytes }
         requires line { is_line line.now ≡ true }
-        ensures answer { result ≡ (length line.now == length (line_of (lines limit sheet.old count) number)) }
-        ensures taken { result ≡ true → lines limit sheet.new count ≡ slice_set (lines limit sheet.old count) (number - 1) line.now }
-        ensures layout { result ≡ true → laid limit sheet.old (lines limit sheet.old count) → laid limit sheet.new (lines limit sheet.new count) }
-        ensures kept { result ≡ false → sheet.new ≡ sheet.old };
+        ensures taken { lines tally.lines sheet.new (tally.count + 1) ≡ lines tally.lines sheet.old tally.count ++ (line.now ∷ []) }
+        ensures layout { laid tally.lines sheet.old (lines tally.lines sheet.old tally.count) → laid tally.lines sheet.new (lines tally.lines sheet.new (tally.count + 1)) };
 }

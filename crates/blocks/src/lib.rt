@@ -4,4 +4,6 @@ pub mod indexed;
 mod layout;
 mod marks;
 pub mod packed;
+mod sheet;
 pub mod store;
+mod tally;

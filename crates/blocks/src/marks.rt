@@ -1,16 +1,48 @@
-ghost use Rattle.std.specs.Prelude.{◌≡◌, if◌then◌else◌};
-ghost use Rattle.blocks.specs.Numbers.{within, fresh};
+ghost use Rattle.std.specs.Prelude.{◌≡◌, ◌+◌, ◌≤◌};
+ghost use Rattle.blocks.specs.Numbers.{other, base, within, fresh};
 
-// The numbers of a block store: its limits, which sheet has the current list, how many lines that and the draft have.
-// No fact ties them to one another or to the block: a store tests them on every call.
+use std::ops::Range;
+
+// A block's two halves: the current list lies on the one, the draft on the other.
+#[derive(Clone, Copy, Debug, PartialEq, Eq)]
+pub enum Half {
+    First,
+    Second,
+}
+
+impl Half {
+    pub(crate) fn other(self) -> Half
+        ensures { result ≡ other self }
+    {
+        match self {
+            Half::First => Half::Second,
+            Half::Second => Half::First,
+        }
+    }
+
+    // Where a sheet of so many bytes stands in its block.
+    pub(crate) fn range(self, size: usize) -> Range<usize>
+        requires { size ≤ 40000 }
+        ensures from { result.start ≡ base size self }
+        ensures to { result.end ≡ base size self + size }
+    {
+        match self {
+            Half::First => 0..size,
+            Half::Second => size..size + size,
+        }
+    }
+}
+
+// The numbers of a block store: its limits, the half with the current list, how many lines that and the draft have.
+// No fact ties them to one another or to the block, so a store tests them on every call. With a ghost field here a store
+// could lie under no layer: "a type argument holds a `&mut` and a struct that has a ghost field".
 #[derive(Clone, Copy)]
 pub struct Marks {
     pub lines: usize,
     pub bytes: usize,
-    pub second: bool,
+    pub list: Half,
     pub count: usize,
-    pub drafted: bool,
-    pub draft: usize,
+    pub draft: Option<usize>,
 }
 
 impl Marks {
@@ -21,10 +53,9 @@ impl Marks {
         Marks {
             lines,
             bytes,
-            second: false,
+            list: Half::First,
             count: 0,
-            drafted: false,
-            draft: 0,
+            draft: None,
         }
     }
 
@@ -32,13 +63,6 @@ impl Marks {
     pub(crate) fn within(self) -> bool
         ensures { result ≡ within self }
     {
-        self.count <= self.lines && self.draft <= self.lines
+        self.count <= self.lines && self.draft.unwrap_or(0) <= self.lines
     }
-}
-
-// Where a sheet stands in its block.
-pub(crate) fn base_of(second: bool, size: usize) -> usize
-    ensures { result ≡ (if second then size else 0) }
-{
-    if second { size } else { 0 }
 }

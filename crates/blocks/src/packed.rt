@@ -1,41 +1,40 @@
-ghost use Rattle.std.specs.Prelude.{◌≡◌, ◌+◌, ◌≤◌, length};
-ghost use Rattle.blocks.specs.Packed.{reach, stops, packed_lines, packed_size, PackedLaid};
+ghost use Rattle.std.specs.Prelude.{◌≡◌, ◌+◌, ◌≤◌, length, take};
+ghost use Rattle.blocks.specs.Packed.{upto, stops, packed_lines, packed_size, PackedLaid};
 ghost use Rattle.blocks.specs.PackedLaws.{packed_grows, packed_counted, packed_lawful, packed_laid, packed_kind};
 
-use crate::layout::{Inside, Layout};
-use lines::fault::{Cause, Fault};
-use lines::line::{LF, LONGEST, put_line};
+use crate::layout::Layout;
+use crate::tally::Tally;
+use lines::line::{LF, LONGEST};
+use std::ops::Range;
 
 // The lines of a sheet, packed, each ended by LF.
 #[derive(Default, Drop)]
 pub struct Packed;
 
-// The length of the line that starts at `start`.
-fn scan(sheet: &[u8], start: usize) -> usize
-    requires { start ≤ length sheet.now + 4000 }
-    ensures { result ≡ reach sheet.now start }
+// The length of the line that these bytes begin with.
+fn line_len(bytes: &[u8]) -> usize
+    ensures is { result ≡ upto (take 240 bytes.now) }
+    ensures short { result ≤ 240 }
+    ensures within { result ≤ length bytes.now }
 {
-    for len in 0..LONGEST {
-        if start + len >= sheet.len() {
-            return len;
-        }
-        if sheet[start + len] == LF {
-            return len;
-        }
-    }
-    LONGEST
+    bytes
+        .iter()
+        .take(LONGEST)
+        .take_while(|byte| **byte != LF)
+        .count()
 }
 
-// Where the line behind the first `count` lines starts.
+// Where the line behind the first `count` lines starts, which may be behind the sheet.
 fn stop_of(sheet: &[u8], count: usize) -> usize
     requires { count ≤ 4000 }
     ensures is { result ≡ stops sheet.now count }
     ensures within { result ≤ length sheet.now + count }
     ensures above { count ≤ result }
 {
-    let mut start = 0;
-    for line in 0..count {
-        start += scan(sheet, start) + 1;
+    let mut start: usize = 0;
+    for _line in 0..count {
+        let rest = &sheet[start.min(sheet.len())..];
+        start += line_len(rest) + 1;
     }
     start
 }
@@ -47,7 +46,7 @@ impl Layout for Packed {
 
     ghost laid = { λ _ s ls. PackedLaid s ls };
 
-    ghost kind = { 2 };
+    ghost KIND = { 2 };
 
     ghost grows = { packed_grows };
 
@@ -59,75 +58,25 @@ impl Layout for Packed {
 
     ghost lawful_kind = { packed_kind };
 
-    fn kind() -> u8 {
-        2
-    }
+    const KIND: u8 = 2;
 
-    fn size(_inside: Inside, limit: usize, bytes: usize) -> usize {
+    fn size(limit: usize, bytes: usize) -> usize {
         limit + bytes
     }
 
-    fn read_line(
-        _inside: Inside,
-        sheet: &[u8],
-        _limit: usize,
-        count: usize,
-        number: usize,
-        buf: &mut [u8],
-    ) -> Result<usize, Fault> {
-        if number == 0 || count < number {
-            return Err(Fault::plain(Cause::NoSuchLine));
-        }
-        let start = stop_of(sheet, number - 1);
-        let len = scan(sheet, start);
-        let from = start.min(sheet.len());
-        let end = from + len;
-        put_line(&sheet[from..end], buf)
+    fn used(sheet: &[u8], tally: Tally) -> usize {
+        stop_of(sheet, tally.count) - tally.count
     }
 
-    fn write_line(
-        _inside: Inside,
-        sheet: &mut [u8],
-        limit: usize,
-        bytes: usize,
-        count: usize,
-        line: &[u8],
-    ) -> bool {
-        if count >= limit {
-            return false;
-        }
-        let start = stop_of(sheet, count);
-        let len = line.len();
-        if start - count + len > bytes {
-            return false;
-        }
-        let end = start + len;
-        let part = &mut sheet[start..end];
-        part.copy_from_slice(line);
+    fn place(sheet: &[u8], tally: Tally, row: usize) -> Range<usize> {
+        let start = stop_of(sheet, row).min(sheet.len());
+        start..start + line_len(&sheet[start..])
+    }
+
+    fn append(sheet: &mut [u8], tally: Tally, used: usize, line: &[u8]) {
+        let start = used + tally.count;
+        let end = start + line.len();
+        sheet[start..end].copy_from_slice(line);
         sheet[end] = LF;
-        true
-    }
-
-    fn change_line(
-        _inside: Inside,
-        sheet: &mut [u8],
-        _limit: usize,
-        _count: usize,
-        number: usize,
-        line: &[u8],
-    ) -> bool {
-        let start = stop_of(sheet, number - 1);
-        let len = scan(sheet, start);
-        if line.len() != len {
-            return false;
-        }
-        // nothing is written for an empty line, which may lie right behind the sheet
-        if len == 0 {
-            return true;
-        }
-        let end = start + len;
-        let part = &mut sheet[start..end];
-        part.copy_from_slice(line);
-        true
     }
 }

@@ -1,25 +1,28 @@
-ghost use Rattle.std.specs.Prelude.{◌≡◌, ◌-◌, [], ◌∷◌, ◌++◌, length, if◌then◌else◌, Some, None, slice_set};
+ghost use Rattle.std.specs.Prelude.{◌≡◌, ◌-◌, [], ◌∷◌, ◌++◌, length, if◌then◌else◌, Some, None, MatchResult, slice_set};
 ghost use Rattle.lines.specs.Faults.{verdict, left};
 ghost use Rattle.lines.specs.Lines.{draft_lines, begin_refusal, add_refusal, patch_refusal, keep_refusal};
-ghost use Rattle.blocks.specs.Blocks.{fits, stands, block_refusal, Begins};
+ghost use Rattle.blocks.specs.Blocks.{fits, stands, block_refusal, Begins, Listed, Listless, Drafted, Draftless};
 ghost use Rattle.blocks.specs.Stores.{store_list, store_draft, store_limits, store_health, StoreLaid};
 ghost use Rattle.blocks.specs.BlockLaws.{list_lawful, draft_lawful, limits_lawful};
 
 use crate::indexed::Indexed;
-use crate::layout::{Inside, Layout};
-use crate::marks::{Marks, base_of};
+use crate::layout::Layout;
+use crate::marks::Marks;
 use crate::packed::Packed;
+use crate::sheet::{add_line, change_line, read_line};
+use crate::tally::Tally;
 use lines::fault::{Cause, Fault};
 use lines::line::is_line;
 use lines::source::{LineSource, MOST_LINES};
 use lines::store::{LineStore, MOST_BYTES};
+use std::marker::PhantomData;
 
 // A store over one lent block with two sheets: the current list lies on the one, the draft on the other.
 #[derive(Drop)]
 pub struct BlockStore<'a, L> {
     block: &'a mut [u8],
     at: Marks,
-    layout: L,
+    layout: PhantomData<L>,
 }
 
 // Kind 2: the lines of a sheet are packed, each ended by LF.
@@ -33,7 +36,7 @@ impl<'a, L: Layout> BlockStore<'a, L> {
     fn fits(size: usize, lines: usize, bytes: usize) -> bool
         ensures { result ≡ fits L.Layout.size lines bytes size }
     {
-        lines <= MOST_LINES && bytes <= MOST_BYTES && 2 * L::size(Inside, lines, bytes) <= size
+        lines <= MOST_LINES && bytes <= MOST_BYTES && 2 * L::size(lines, bytes) <= size
     }
 
     // Refuses a block that is short for the limits, and limits above 4,000 or 24,000.
@@ -52,17 +55,58 @@ impl<'a, L: Layout> BlockStore<'a, L> {
         ensures limits { store_limits L.Layout.own result ≡ (if fits L.Layout.size lines bytes (length block.old) then (lines, bytes) else (0, 0)) }
         ensures layout { StoreLaid L.Layout.own result }
     {
-        let at = Marks::new(lines, bytes);
-        let layout = L::default();
-        BlockStore { block, at, layout }
+        BlockStore {
+            block,
+            at: Marks::new(lines, bytes),
+            layout: PhantomData,
+        }
     }
 
     // Do the limits fit the block, and the counts the limits?
     fn stands(&self) -> bool
         ensures { result ≡ stands L.Layout.size self.now.block.now self.now.at }
     {
-        let marks = self.at;
-        Self::fits(self.block.len(), marks.lines, marks.bytes) && marks.within()
+        Self::fits(self.block.len(), self.at.lines, self.at.bytes) && self.at.within()
+    }
+
+    // The numbers of the list's sheet, or the refusal of a read where the store does not stand: it has no lines then.
+    fn listed(&self) -> Result<Tally, Fault>
+        ensures { MatchResult result (λ t. Listed L.Layout.size self.now.block.now self.now.at t) (λ e. Listless L.Layout.size self.now.block.now self.now.at e) }
+    {
+        let Marks {
+            lines,
+            bytes,
+            count,
+            ..
+        } = self.at;
+        if !self.stands() {
+            return Err(Fault::plain(Cause::NoSuchLine));
+        }
+        Ok(Tally {
+            lines,
+            bytes,
+            count,
+        })
+    }
+
+    // The numbers of the draft's sheet, or the refusal of a call that needs a draft.
+    fn drafted(&self) -> Result<Tally, Fault>
+        ensures { MatchResult result (λ t. Drafted L.Layout.size self.now.block.now self.now.at t) (λ e. Draftless L.Layout.size self.now.block.now self.now.at e) }
+    {
+        let Marks {
+            lines,
+            bytes,
+            draft,
+            ..
+        } = self.at;
+        match draft {
+            Some(count) if self.stands() => Ok(Tally {
+                lines,
+                bytes,
+                count,
+            }),
+            _ => Err(Fault::plain(Cause::NoDraft)),
+        }
     }
 }
 
@@ -74,7 +118,7 @@ impl<'a, L: Layout> LineSource for BlockStore<'a, L> {
     ghost lawful = { λ s. list_lawful L.Layout.lines L.Layout.size L.Layout.counted L.Layout.lawful s.block.now s.at };
 
     fn count(&self) -> usize {
-        if self.stands() { self.at.count } else { 0 }
+        self.listed().map_or(0, |list| list.count)
     }
 
     fn health(&self) -> u8 {
@@ -82,15 +126,9 @@ impl<'a, L: Layout> LineSource for BlockStore<'a, L> {
     }
 
     fn read(&self, n: usize, buf: &mut [u8]) -> Result<usize, Fault> {
-        if !self.stands() {
-            return Err(Fault::plain(Cause::NoSuchLine));
-        }
-        let marks = self.at;
-        let size = L::size(Inside, marks.lines, marks.bytes);
-        let base = base_of(marks.second, size);
-        let end = base + size;
-        let sheet = &self.block[base..end];
-        L::read_line(Inside, sheet, marks.lines, marks.count, n, buf)
+        let list = self.listed()?;
+        let half = self.at.list.range(L::size(list.lines, list.bytes));
+        read_line::<L>(&self.block[half], list, n, buf)
     }
 }
 
@@ -99,7 +137,7 @@ impl<'a, L: Layout> LineStore for BlockStore<'a, L> {
 
     ghost limits = { λ s. store_limits L.Layout.own s };
 
-    ghost bottom = { λ _. L.Layout.kind };
+    ghost bottom = { λ _. L.Layout.KIND };
 
     ghost lawful_draft = { λ s. draft_lawful L.Layout.lines L.Layout.size L.Layout.counted L.Layout.lawful s.block.now s.at };
 
@@ -108,15 +146,12 @@ impl<'a, L: Layout> LineStore for BlockStore<'a, L> {
     ghost lawful_bottom = { λ _. L.Layout.lawful_kind };
 
     fn limits(&self) -> (usize, usize) {
-        if self.stands() {
-            (self.at.lines, self.at.bytes)
-        } else {
-            (0, 0)
-        }
+        self.listed()
+            .map_or((0, 0), |list| (list.lines, list.bytes))
     }
 
     fn bottom(&self) -> u8 {
-        L::kind()
+        L::KIND
     }
 
     // The storing calls repeat the clauses of their trait, `bottom` among them, and add `layout`: where list and draft
@@ -127,18 +162,14 @@ impl<'a, L: Layout> LineStore for BlockStore<'a, L> {
         ensures list { store_list L.Layout.own self.new ≡ store_list L.Layout.own self.old }
         ensures health { store_health self.new ≡ store_health self.old }
         ensures limits { store_limits L.Layout.own self.new ≡ store_limits L.Layout.own self.old }
-        ensures bottom { L.Layout.kind ≡ L.Layout.kind }
+        ensures bottom { L.Layout.KIND ≡ L.Layout.KIND }
         ensures layout { StoreLaid L.Layout.own self.old → StoreLaid L.Layout.own self.new }
     {
-        let marks = self.at;
-        if !self.stands() || marks.lines == 0 {
+        let (lines, _) = self.limits();
+        if lines == 0 {
             return Err(Fault::plain(Cause::NoRoom));
         }
-        self.at = Marks {
-            drafted: true,
-            draft: 0,
-            ..marks
-        };
+        self.at.draft = Some(0);
         Ok(())
     }
 
@@ -148,42 +179,31 @@ impl<'a, L: Layout> LineStore for BlockStore<'a, L> {
         ensures list { store_list L.Layout.own self.new ≡ store_list L.Layout.own self.old }
         ensures health { store_health self.new ≡ store_health self.old }
         ensures limits { store_limits L.Layout.own self.new ≡ store_limits L.Layout.own self.old }
-        ensures bottom { L.Layout.kind ≡ L.Layout.kind }
+        ensures bottom { L.Layout.KIND ≡ L.Layout.KIND }
         ensures layout { StoreLaid L.Layout.own self.old → StoreLaid L.Layout.own self.new }
     {
-        let marks = self.at;
-        if !self.stands() || !marks.drafted {
-            return Err(Fault::plain(Cause::NoDraft));
-        }
+        let draft = self.drafted()?;
         if !is_line(line) {
             return Err(Fault::plain(Cause::NotALine));
         }
-        let size = L::size(Inside, marks.lines, marks.bytes);
-        let base = base_of(!marks.second, size);
-        let end = base + size;
-        let sheet = &mut self.block[base..end];
-        let taken = L::write_line(Inside, sheet, marks.lines, marks.bytes, marks.draft, line);
-        if !taken {
-            return Err(Fault::plain(Cause::NoRoom));
-        }
-        self.at = Marks {
-            drafted: true,
-            draft: marks.draft + 1,
-            ..marks
-        };
+        let half = self
+            .at
+            .list
+            .other()
+            .range(L::size(draft.lines, draft.bytes));
+        add_line::<L>(&mut self.block[half], draft, line)?;
+        self.at.draft = Some(draft.count + 1);
         Ok(())
     }
 
     fn look(&self, n: usize, buf: &mut [u8]) -> Result<usize, Fault> {
-        let marks = self.at;
-        if !self.stands() || !marks.drafted {
-            return Err(Fault::plain(Cause::NoDraft));
-        }
-        let size = L::size(Inside, marks.lines, marks.bytes);
-        let base = base_of(!marks.second, size);
-        let end = base + size;
-        let sheet = &self.block[base..end];
-        L::read_line(Inside, sheet, marks.lines, marks.draft, n, buf)
+        let draft = self.drafted()?;
+        let half = self
+            .at
+            .list
+            .other()
+            .range(L::size(draft.lines, draft.bytes));
+        read_line::<L>(&self.block[half], draft, n, buf)
     }
 
     fn patch(&mut self, n: usize, line: &[u8]) -> Result<(), Fault>
@@ -192,28 +212,19 @@ impl<'a, L: Layout> LineStore for BlockStore<'a, L> {
         ensures list { store_list L.Layout.own self.new ≡ store_list L.Layout.own self.old }
         ensures health { store_health self.new ≡ store_health self.old }
         ensures limits { store_limits L.Layout.own self.new ≡ store_limits L.Layout.own self.old }
-        ensures bottom { L.Layout.kind ≡ L.Layout.kind }
+        ensures bottom { L.Layout.KIND ≡ L.Layout.KIND }
         ensures layout { StoreLaid L.Layout.own self.old → StoreLaid L.Layout.own self.new }
     {
-        let marks = self.at;
-        if !self.stands() || !marks.drafted {
-            return Err(Fault::plain(Cause::NoDraft));
-        }
+        let draft = self.drafted()?;
         if !is_line(line) {
             return Err(Fault::plain(Cause::NotALine));
         }
-        if n == 0 || marks.draft < n {
-            return Err(Fault::plain(Cause::NoSuchLine));
-        }
-        let size = L::size(Inside, marks.lines, marks.bytes);
-        let base = base_of(!marks.second, size);
-        let end = base + size;
-        let sheet = &mut self.block[base..end];
-        let taken = L::change_line(Inside, sheet, marks.lines, marks.draft, n, line);
-        if !taken {
-            return Err(Fault::plain(Cause::OtherLength));
-        }
-        Ok(())
+        let half = self
+            .at
+            .list
+            .other()
+            .range(L::size(draft.lines, draft.bytes));
+        change_line::<L>(&mut self.block[half], draft, n, line)
     }
 
     fn keep(&mut self) -> Result<(), Fault>
@@ -222,19 +233,15 @@ impl<'a, L: Layout> LineStore for BlockStore<'a, L> {
         ensures list { store_list L.Layout.own self.new ≡ left (keep_refusal (store_draft L.Layout.own self.old)) (draft_lines (store_draft L.Layout.own self.old)) (store_list L.Layout.own self.old) }
         ensures health { store_health self.new ≡ left (keep_refusal (store_draft L.Layout.own self.old)) 0 (store_health self.old) }
         ensures limits { store_limits L.Layout.own self.new ≡ store_limits L.Layout.own self.old }
-        ensures bottom { L.Layout.kind ≡ L.Layout.kind }
+        ensures bottom { L.Layout.KIND ≡ L.Layout.KIND }
         ensures layout { StoreLaid L.Layout.own self.old → StoreLaid L.Layout.own self.new }
     {
-        let marks = self.at;
-        if !self.stands() || !marks.drafted {
-            return Err(Fault::plain(Cause::NoDraft));
-        }
+        let draft = self.drafted()?;
         self.at = Marks {
-            second: !marks.second,
-            count: marks.draft,
-            drafted: false,
-            draft: 0,
-            ..marks
+            list: self.at.list.other(),
+            count: draft.count,
+            draft: None,
+            ..self.at
         };
         Ok(())
     }

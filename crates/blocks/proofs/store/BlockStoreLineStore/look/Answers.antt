@@ -1,18 +1,15 @@
-use Rattle.std.proofs.Common.{ℕ, List, length, sym, ap, ◌∙◌}
-use Rattle.std.proofs.lemmas.Bool.{not-false}
+use Rattle.std.proofs.Common.{ℕ, List, length, refl, sym, ap, ◌∙◌}
 use Rattle.lines.specs.Faults.{verdict, left}
 use Rattle.lines.specs.Lines.{look_refusal, line_of, draft_lines, fronted}
-use Rattle.blocks.proofs.TwoSheets.{draft_part}
+use Rattle.blocks.proofs.TwoSheets.{lent, draft_lent}
 use Rattle.blocks.proofs.store.BlockStoreLineStore.look.Goals as goal
 
 pub returns : goal.returns
 returns g c =
-    let b : List ℕ = c.args.self.now.block.now in
-    let m = c.args.self.now.at in
     let n : ℕ = c.args.n in
     let buf : List ℕ = c.args.buf.now in
-    let e = sym (draft_part g.L.Layout.lines g.L.Layout.size b m (sym c.if-not-stands.ensures) c.size-size.result c.size-size.ensures.is c.base_of-base.result c.base_of-base.ensures (not-false m.drafted c.if-not-marks.false)) in
+    let e = draft_lent g.L.Layout.lines (lent c.in_ok-draft.ensures.0 c.other.ensures c.size.ensures.is c.range-half.ensures.from c.range-half.ensures.to) refl c.in_ok-draft.ensures.1 in
     record {
-      answer = c.read_line.ensures.answer ∙ ap (λ d. verdict (look_refusal d n (length buf)) (length (line_of (draft_lines d) n))) e;
-      bytes = c.read_line.ensures.bytes ∙ ap (λ d. left (look_refusal d n (length buf)) (fronted (line_of (draft_lines d) n) buf) buf) e;
+      answer = c.read_line.ensures.answer ∙ sym (ap (λ d. verdict (look_refusal d n (length buf)) (length (line_of (draft_lines d) n))) e);
+      bytes = c.read_line.ensures.bytes ∙ sym (ap (λ d. left (look_refusal d n (length buf)) (fronted (line_of (draft_lines d) n) buf) buf) e);
     }
