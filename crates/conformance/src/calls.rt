@@ -1,4 +1,4 @@
-use crate::words::{bytes_from, number, print_done, print_refusal, shown, word};
+use crate::words::{Shown, bytes_from, number, print_done, word};
 use checksum::layer::Checksum;
 use checksum::sum::{sum_line, sum_of};
 use lines::fault::Fault;
@@ -15,13 +15,12 @@ pub(crate) fn call_source<S: LineSource>(
     source: &S,
 ) -> anyhow::Result<bool> {
     match word(line, 0) {
-        "count" => print_number(rt, source.count())?,
-        "health" => print_number(rt, source.health() as usize)?,
-        "bytes" => print_number(rt, total_bytes(source))?,
+        "count" => println!(rt; "ok {}", source.count())?,
+        "health" => println!(rt; "ok {}", source.health())?,
+        "bytes" => println!(rt; "ok {}", total_bytes(source))?,
         "sum" => {
             let sum = sum_line(sum_of(source));
-            let text = shown(rt.alloc(), &sum)?;
-            println!(rt; "ok {text}")?;
+            println!(rt; "ok {}", Shown(&sum))?;
         }
         "read" => {
             let mut buf = buffer(rt, line)?;
@@ -44,7 +43,7 @@ pub(crate) fn call_store<S: LineStore>(
             let (lines, bytes) = store.limits();
             println!(rt; "ok {lines} {bytes}")?;
         }
-        "bottom" => print_number(rt, store.bottom() as usize)?,
+        "bottom" => println!(rt; "ok {}", store.bottom())?,
         "begin" => print_done(rt, store.begin())?,
         "add" => {
             let bytes = bytes_from(rt.alloc(), line, 1)?;
@@ -97,18 +96,13 @@ fn buffer(rt: &HostRuntime, line: &str) -> anyhow::Result<Vec<u8>> {
     Ok(vec![in rt.alloc(); b'.'; space]?)
 }
 
-fn print_number(rt: &HostRuntime, n: usize) -> anyhow::Result<()> {
-    println!(rt; "ok {n}")?;
-    Ok(())
-}
-
 // Prints what a read answered, and the whole buffer, refused or not.
 fn print_read(rt: &HostRuntime, answer: Result<usize, Fault>, buf: &[u8]) -> anyhow::Result<()> {
-    let text = shown(rt.alloc(), buf)?;
+    let text = Shown(buf);
     match answer {
         Ok(len) => println!(rt; "ok {len} {text}")?,
         Err(fault) => {
-            print_refusal(rt, fault)?;
+            println!(rt; "? {fault}")?;
             println!(rt; "  {text}")?;
         }
     }

@@ -1,9 +1,8 @@
 use crate::calls::{call_source, call_store};
-use crate::words::{bytes_from, number, print_refusal, shown, word};
+use crate::words::{Shown, bytes_from, number, print_answer, word};
 use anyhow::anyhow;
 use blocks::store::{Image, IndexedBlock};
 use checksum::layer::Checksum;
-use lines::fault::Fault;
 use lines::source::LineSource;
 use lines::store::LineStore;
 use lines::text::Text;
@@ -13,13 +12,8 @@ pub(crate) fn is_case(line: &str) -> bool {
     matches!(word(line, 0), "text" | "image" | "indexed")
 }
 
-// Runs the case that begins at line `at` of the table.
-pub(crate) fn run_case(rt: &HostRuntime, table: &[String], at: usize) -> anyhow::Result<()> {
-    if at >= table.len() {
-        return Ok(());
-    }
-    let line = table[at].as_str();
-    let rest = &table[at + 1..];
+// Runs the case that begins with this line, with the calls that follow it.
+pub(crate) fn run_case(rt: &HostRuntime, line: &str, rest: &[String]) -> anyhow::Result<()> {
     match word(line, 0) {
         "text" => run_text(rt, line, rest),
         _ => run_block(rt, line, rest),
@@ -28,7 +22,7 @@ pub(crate) fn run_case(rt: &HostRuntime, table: &[String], at: usize) -> anyhow:
 
 fn run_text(rt: &HostRuntime, line: &str, rest: &[String]) -> anyhow::Result<()> {
     let bytes = bytes_from(rt.alloc(), line, 2)?;
-    print_made(rt, "text", Text::check(bytes.as_slice()))?;
+    print_answer(rt, Text::check(bytes.as_slice()).map(|()| "text"))?;
     let text = Text::new(bytes.as_slice());
     match number(line, 1)? {
         0 => ask(rt, rest, &text),
@@ -56,25 +50,15 @@ fn run_block(rt: &HostRuntime, line: &str, rest: &[String]) -> anyhow::Result<()
     let size = number(line, 4)?;
     let mut block = vec![in rt.alloc(); b'#'; size]?;
     if word(line, 0) == "image" {
-        print_made(rt, "image", Image::check(block.as_slice(), lines, bytes))?;
-        pile_up(
-            rt,
-            rest,
-            layers,
-            Image::new(block.as_mut_slice(), lines, bytes),
-        )?;
+        let made = Image::check(block.as_slice(), lines, bytes);
+        print_answer(rt, made.map(|()| "image"))?;
+        let store = Image::new(block.as_mut_slice(), lines, bytes);
+        pile_up(rt, rest, layers, store)?;
     } else {
-        print_made(
-            rt,
-            "indexed",
-            IndexedBlock::check(block.as_slice(), lines, bytes),
-        )?;
-        pile_up(
-            rt,
-            rest,
-            layers,
-            IndexedBlock::new(block.as_mut_slice(), lines, bytes),
-        )?;
+        let made = IndexedBlock::check(block.as_slice(), lines, bytes);
+        print_answer(rt, made.map(|()| "indexed"))?;
+        let store = IndexedBlock::new(block.as_mut_slice(), lines, bytes);
+        pile_up(rt, rest, layers, store)?;
     }
     show_block(rt, rest, block.as_slice())
 }
@@ -136,8 +120,7 @@ fn show_block(rt: &HostRuntime, rest: &[String], block: &[u8]) -> anyhow::Result
         if word(line, 0) == "block" {
             let start = number(line, 1)?.min(block.len());
             let len = number(line, 2)?.min(block.len() - start);
-            let bytes = shown(rt.alloc(), &block[start..start + len])?;
-            println!(rt; "ok {bytes}")?;
+            println!(rt; "ok {}", Shown(&block[start..start + len]))?;
         }
     }
     Ok(())
@@ -150,12 +133,4 @@ fn known(called: bool, line: &str) -> anyhow::Result<()> {
         return Ok(());
     }
     Err(anyhow!("a line of the table is no call"))
-}
-
-fn print_made(rt: &HostRuntime, kind: &str, checked: Result<(), Fault>) -> anyhow::Result<()> {
-    match checked {
-        Ok(()) => println!(rt; "ok {kind}")?,
-        Err(fault) => print_refusal(rt, fault)?,
-    }
-    Ok(())
 }

@@ -18,9 +18,10 @@ fn run(rt: &HostRuntime) -> anyhow::Result<()> {
     for line in BufReader::new(heap, rt.stdin())?.lines(heap) {
         table.push(line?)?;
     }
-    for at in 0..table.len() {
-        if is_case(table[at].as_str()) {
-            run_case(rt, table.as_slice(), at)?;
+    let table = table.as_slice();
+    for (at, line) in table.iter().enumerate() {
+        if is_case(line.as_str()) {
+            run_case(rt, line.as_str(), &table[at + 1..])?;
         }
     }
     Ok(())

@@ -1,4 +1,4 @@
-use crate::words::{lists, number, print_refusal, push_line, shown, sid_of, word};
+use crate::words::{Shown, lists, number, print_answer, push_line, sid_of, word};
 use anyhow::anyhow;
 use archive::reading::{get, val};
 use archive::request::Request;
@@ -30,7 +30,7 @@ pub(crate) fn run_case(
     for row in &rest[..count] {
         push_line(&mut bytes, row.as_str())?;
     }
-    print_made(rt, Text::check(bytes.as_slice()))?;
+    print_answer(rt, Text::check(bytes.as_slice()).map(|()| "text"))?;
     let text = Text::new(bytes.as_slice());
     if word(line, 0) == "summed" {
         ask(rt, &rest[count..], &Checksum::new(text))
@@ -44,7 +44,7 @@ fn ask<S: LineSource>(rt: &HostRuntime, calls: &[String], source: &S) -> anyhow:
     for call in calls {
         let line = call.as_str();
         match word(line, 0) {
-            "val" => print_val(rt, val(source))?,
+            "val" => print_answer(rt, val(source))?,
             "get" => ask_get(rt, line, source)?,
             "plain" | "summed" => return Ok(()),
             "" | "#" => (),
@@ -68,22 +68,6 @@ fn ask_get<S: LineSource>(rt: &HostRuntime, line: &str, source: &S) -> anyhow::R
     print_get(rt, answer, buf.as_slice())
 }
 
-fn print_made(rt: &HostRuntime, checked: Result<(), Fault>) -> anyhow::Result<()> {
-    match checked {
-        Ok(()) => println!(rt; "ok text")?,
-        Err(fault) => print_refusal(rt, fault)?,
-    }
-    Ok(())
-}
-
-fn print_val(rt: &HostRuntime, answer: Result<u8, Fault>) -> anyhow::Result<()> {
-    match answer {
-        Ok(deltas) => println!(rt; "ok {deltas}")?,
-        Err(fault) => print_refusal(rt, fault)?,
-    }
-    Ok(())
-}
-
 // Prints what a get answered, and the whole buffer, refused or not.
 fn print_get(rt: &HostRuntime, answer: Result<Measure, Fault>, buf: &[u8]) -> anyhow::Result<()> {
     match answer {
@@ -92,9 +76,8 @@ fn print_get(rt: &HostRuntime, answer: Result<Measure, Fault>, buf: &[u8]) -> an
             let bytes = measure.bytes;
             println!(rt; "ok {lines} {bytes}")?;
         }
-        Err(fault) => print_refusal(rt, fault)?,
+        Err(fault) => println!(rt; "? {fault}")?,
     }
-    let text = shown(rt.alloc(), buf)?;
-    println!(rt; "  {text}")?;
+    println!(rt; "  {}", Shown(buf))?;
     Ok(())
 }

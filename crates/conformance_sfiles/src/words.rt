@@ -1,7 +1,8 @@
 use anyhow::anyhow;
 use lines::fault::Fault;
 use records::sid::Sid;
-use std::alloc::{AllocError, Global};
+use std::alloc::AllocError;
+use std::fmt;
 
 // Word k of a line, counted from 0; empty where there is none.
 pub(crate) fn word(line: &str, k: usize) -> &str {
@@ -106,26 +107,32 @@ fn digit(b: u8) -> anyhow::Result<u8> {
     }
 }
 
-// Bytes as they are printed: 33 to 126 but the backslash as they are, the others in hexadecimal.
-pub(crate) fn shown(heap: Global, bytes: &[u8]) -> Result<String, AllocError> {
-    let mut text = String::new(heap);
-    for b in bytes {
-        let byte = *b;
-        if byte >= 33 && byte <= 126 && byte != 92 {
-            text.push(byte as char)?;
-        } else {
-            let hex = format!(in heap; "\\{byte:02x}")?;
-            text.push_str(hex.as_str())?;
+// Bytes as they are printed: 33 to 126 but the backslash as they are, the others in hexadecimal. Crate conformance has
+// the same: a program is no library, and one for this alone would make it a public call.
+#[derive(Clone, Copy)]
+pub(crate) struct Shown<'a>(pub(crate) &'a [u8]);
+
+impl<'a> fmt::Display for Shown<'a> {
+    fn fmt<W: fmt::Write>(&self, f: &mut fmt::Formatter<W>) -> fmt::Result {
+        for byte in self.0 {
+            if *byte != b'\\' && byte.is_ascii_graphic() {
+                write!(f, "{}", char::from(*byte))?;
+            } else {
+                write!(f, "\\{byte:02x}")?;
+            }
         }
+        Ok(())
     }
-    Ok(text)
 }
 
-pub(crate) fn print_refusal(rt: &HostRuntime, fault: Fault) -> anyhow::Result<()> {
-    let number = fault.cause.number();
-    let place = fault.place;
-    let serial = fault.serial;
-    let layer = fault.layer;
-    println!(rt; "? {number} {place} {serial} {layer}")?;
+// Prints an answer, or the four numbers of a refusal.
+pub(crate) fn print_answer<T: fmt::Display + Drop>(
+    rt: &HostRuntime,
+    answer: Result<T, Fault>,
+) -> anyhow::Result<()> {
+    match answer {
+        Ok(value) => println!(rt; "ok {value}")?,
+        Err(fault) => println!(rt; "? {fault}")?,
+    }
     Ok(())
 }

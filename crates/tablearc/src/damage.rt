@@ -10,29 +10,14 @@ use whole::written::write_text;
 pub(crate) fn show_damage<S: LineSource>(rt: &HostRuntime, below: &S) -> anyhow::Result<()> {
     let size = total_bytes(below).saturating_add(below.count());
     let mut copy = vec![in rt.alloc(); 0u8; size]?;
-    if write_text(below, copy.as_mut_slice()).is_err() {
-        return Err(anyhow!("the copy has no room"));
-    }
+    write_text(below, copy.as_mut_slice())?;
     let good = Checksum::new(Text::new(copy.as_slice())).health();
-    let Some(at) = last_in_line(copy.as_slice()) else {
+    // the last byte that is no line end
+    let Some(at) = copy.as_slice().iter().rposition(|byte| *byte != LF) else {
         return Err(anyhow!("the copy is empty"));
     };
-    let Some(byte) = copy.get_mut(at) else {
-        return Err(anyhow!("the copy is empty"));
-    };
-    *byte ^= 1;
+    copy[at] ^= 1;
     let bad = Checksum::new(Text::new(copy.as_slice())).health();
     println!(rt; "  a copy of {size} bytes: health {good}; with byte {at} changed: health {bad}")?;
     Ok(())
-}
-
-// The place of the last byte that is no line end.
-fn last_in_line(bytes: &[u8]) -> Option<usize> {
-    let mut last = None;
-    for (i, byte) in bytes.iter().enumerate() {
-        if *byte != LF {
-            last = Some(i);
-        }
-    }
-    last
 }

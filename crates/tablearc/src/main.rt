@@ -1,11 +1,13 @@
 #![tactic(auto)]
 
 mod damage;
+mod failure;
 mod keeping;
 mod report;
 mod sentences;
 mod stores;
 
+use failure::Failure;
 use report::print_refusal;
 use sentences::USAGE;
 use std::env;
@@ -14,23 +16,21 @@ use std::process::ExitCode;
 use stores::keep_in_both;
 
 fn main(rt: HostRuntime) -> anyhow::Result<ExitCode> {
-    if run(&rt)? {
-        return Ok(ExitCode::SUCCESS);
+    match run(&rt) {
+        Ok(()) => return Ok(ExitCode::SUCCESS),
+        Err(Failure::Usage) => eprintln!(rt; "{USAGE}")?,
+        Err(Failure::Refused(fault)) => print_refusal(&rt, fault)?,
+        Err(Failure::Broken(error)) => return Err(error),
     }
     Ok(ExitCode::FAILURE)
 }
 
-// Keeps the table on standard input; false where it is refused, or where the command has words.
-fn run(rt: &HostRuntime) -> anyhow::Result<bool> {
+// Keeps the table on standard input.
+fn run(rt: &HostRuntime) -> Result<(), Failure> {
     if env::args(rt)?.count() > 1 {
-        eprintln!(rt; "{USAGE}")?;
-        return Ok(false);
+        return Err(Failure::Usage);
     }
     let mut bytes = Vec::new(rt.alloc());
     rt.stdin().read_to_end(&mut bytes)?;
-    if let Err(fault) = keep_in_both(rt, bytes.as_slice())? {
-        print_refusal(rt, fault)?;
-        return Ok(false);
-    }
-    Ok(true)
+    keep_in_both(rt, bytes.as_slice())
 }

@@ -30,14 +30,10 @@ pub(crate) fn print_kept(rt: &impl Print, name: &str, kept: &Kept) -> anyhow::Re
     Ok(())
 }
 
-// Prints a refusal: its number, place, serial and layer, and a plain sentence.
+// Prints a refusal: its four numbers, and a plain sentence.
 pub(crate) fn print_refusal(rt: &impl Eprint, fault: Fault) -> anyhow::Result<()> {
-    let number = fault.cause.number();
-    let place = fault.place;
-    let serial = fault.serial;
-    let layer = fault.layer;
     let text = sentence(fault.cause);
-    eprintln!(rt; "? {number} {place} {serial} {layer}")?;
+    eprintln!(rt; "? {fault}")?;
     eprintln!(rt; "{text}")?;
     Ok(())
 }
