@@ -1,25 +1,12 @@
 -- Laws of lines, and of what a read answers. Assumes nothing.
-use Rattle.std.proofs.Common.{◌≡◌, ℕ, ◌+◌, ◌-◌, ◌<◌, ◌≤◌, Bool, true, false, not, ◌&&◌, eqb, ltb, leb, ◌⊎◌, List, [], length, get_or, take, drop, Some, None, Ok, Option, sym, refl, ap, ◌∙◌, subst, inl, inr, ⊎_elim, arith}
-use Rattle.std.specs.Result.{result_unwrap_or}
+use Rattle.std.proofs.Common.{◌≡◌, ℕ, ◌+◌, ◌-◌, ◌<◌, ◌≤◌, Bool, true, false, not, eqb, ltb, leb, ◌⊎◌, List, [], length, Some, None, Ok, Option, sym, refl, ap, ◌∙◌, subst, inl, inr, ⊎_elim, arith}
 use Rattle.std.proofs.ByRecursion.{All-get_or}
-use Rattle.std.proofs.lemmas.List.{at_drop_more, get_or_past, take_at}
-use Rattle.std.proofs.lemmas.Bool.{cases_lt, cases_eq, eq-eqb, ne_eqb, lt-ltb, le-ltb, leb-true, and_parts, or_left, or_right, or_from, cond-true, cond-false, ltb-true, not_from_true}
+use Rattle.std.proofs.lemmas.List.{get_or_past}
+use Rattle.std.proofs.lemmas.Bool.{cases_lt, eq-eqb, ne_eqb, lt-ltb, le-ltb, leb-true, and_parts, or_left, or_right, or_from, cond-true, cond-false, ltb-true, not_from_true}
 use Rattle.lines.specs.declared.fault.Fault.{Fault}
 use Rattle.lines.specs.declared.fault.Cause.TheVariants.{NoSuchLine, ReadBufferShort, NoRoom, OtherLength}
-use Rattle.lines.specs.Faults.{Refusal, accepted, plain, when, verdict, left}
-use Rattle.lines.specs.Lines.{Line, no_lf, is_line, Lawful, line_of, lacks, total, fronted, room, put_refusal, read_refusal, add_refusal, patch_refusal}
-
-pub nolf_more : (xs : List ℕ) (i : ℕ) → i < length xs → (get_or xs i 0 ≡ 10 → ⊥) → no_lf (drop (i + 1) xs) ≡ no_lf (drop i xs)
-nolf_more xs i h ne =
-    let e : no_lf (drop i xs) ≡ (not (eqb (get_or xs i 0) 10) && no_lf (drop (i + 1) xs)) = at_drop_more no_lf xs i 0 h in
-    let n = ne_eqb (get_or xs i 0) 10 ne in
-    sym (e ∙ rw n refl)
-
-pub nolf_stop : (xs : List ℕ) (i : ℕ) → i < length xs → get_or xs i 0 ≡ 10 → no_lf (drop i xs) ≡ false
-nolf_stop xs i h eq =
-    let e : no_lf (drop i xs) ≡ (not (eqb (get_or xs i 0) 10) && no_lf (drop (i + 1) xs)) = at_drop_more no_lf xs i 0 h in
-    let n = eq-eqb (get_or xs i 0) 10 eq in
-    e ∙ rw n refl
+use Rattle.lines.specs.Faults.{Refusal, accepted, plain, when, verdict}
+use Rattle.lines.specs.Lines.{Line, no_lf, is_line, Lawful, line_of, lacks, total, room, put_refusal, read_refusal, add_refusal, patch_refusal}
 
 -- a line has at most 240 bytes
 pub line_short : (l : Line) → is_line l ≡ true → length l ≤ 240
@@ -67,35 +54,6 @@ put_short len space h = check_fails _ _ _ (lt-ltb space len h)
 
 pub put_fits : (len space : ℕ) → len ≤ space → put_refusal len space ≡ accepted
 put_fits len space h = check_passes _ _ _ (le-ltb space len h)
-
-pub value_of : (q : Refusal) (len : ℕ) → result_unwrap_or (verdict q len) 0 ≡ left q len 0
-value_of None len = refl
-value_of (Some f) len = refl
-
--- what the value that a read leaves is at most
-left_fits : (len space : ℕ) → left (put_refusal len space) len 0 ≤ space
-left_fits len space =
-    ⊎_elim (λ o. subst (λ q. left q len 0 ≤ space) (sym (put_short len space o)) (omega arith)) (λ o. subst (λ q. left q len 0 ≤ space) (sym (put_fits len space o)) o) (cases_lt space len)
-
-pub got_fits : (ls : List Line) (n space : ℕ) → left (read_refusal ls n space) (length (line_of ls n)) 0 ≤ space
-got_fits ls n space =
-    ⊎_elim
-    (λ z. subst (λ q. left q (length (line_of ls n)) 0 ≤ space) (sym (read_none ls n space (inl z))) (omega arith))
-    (λ nz. ⊎_elim
-    (λ o. subst (λ q. left q (length (line_of ls n)) 0 ≤ space) (sym (read_none ls n space (inr o))) (omega arith))
-    (λ o. subst (λ q. left q (length (line_of ls n)) 0 ≤ space) (sym (read_some ls n space (omega (arith, nz)) o)) (left_fits (length (line_of ls n)) space))
-    (cases_lt (length ls) n))
-    (cases_eq n 0)
-
-pub got_whole : (ls : List Line) (n : ℕ) (buf : List ℕ) → Lawful ls → 1 ≤ n → 240 ≤ length buf → take (left (read_refusal ls n (length buf)) (length (line_of ls n)) 0) (left (read_refusal ls n (length buf)) (fronted (line_of ls n) buf) buf) ≡ line_of ls n
-got_whole ls n buf ok one big =
-    ⊎_elim
-    (λ o. ap (λ q. take (left q (length (line_of ls n)) 0) (left q (fronted (line_of ls n) buf) buf)) (read_none ls n (length buf) (inr o)) ∙ sym (get_or_past ls (n - 1) [] (omega arith)))
-    (λ o.
-    let short = short_of ls n ok in
-    ap (λ q. take (left q (length (line_of ls n)) 0) (left q (fronted (line_of ls n) buf) buf)) (read_some ls n (length buf) one o ∙ put_fits (length (line_of ls n)) (length buf) (omega arith))
-    ∙ take_at (line_of ls n) (drop (length (line_of ls n)) buf) (length (line_of ls n)) refl)
-    (cases_lt (length ls) n)
 
 -- what a call on a draft that is there is refused with; t is the outcome of its last test
 module _ {D : Option (List Line)} {d : List Line} (is : D ≡ Some d) (l : Line) (g : is_line l ≡ true) where

@@ -8,13 +8,15 @@
 -- placed c p         the fault of cause c that names the place p
 -- layered c k        the fault of cause c that names the layer of kind k
 -- numbered c n       the fault of cause c that names the serial n
+-- four_numbers f     how the fault f is printed: number, place, serial and layer, one blank between
 -- Refusal            none, or the fault that a call is refused with
 -- accepted           no refusal
 -- when b f r         one check of a call: refused with f where b holds, else r, the checks after it
 -- first_refusal r q  the refusal r, or q where r is none: checks in their order
 -- verdict r a        what the call answers: a where it is accepted, else the fault
 -- left r new old     what it leaves: `new` where it is accepted, else `old`
-use Rattle.std.specs.Prelude.{ℕ, Bool, cond, List, [], ◌∷◌, Some, None, Ok, Err, Option, Result, ◌==◌}
+use Rattle.std.specs.Prelude.{ℕ, Bool, cond, List, [], ◌∷◌, ◌++◌, codes, Some, None, Ok, Err, Option, Result, ◌==◌}
+use Rattle.std.specs.Fmt.{decimal}
 use Rattle.lines.specs.declared.fault.Fault.{Fault}
 use Rattle.lines.specs.declared.fault.Cause.{Cause}
 use Rattle.lines.specs.declared.fault.Cause.TheVariants.{NotWhole, HeadForm, HeadContent, BodyRule, NoSuchVersion, ListedSerial, UserName, SidTooHigh, GrantsFull, GrantMismatch, BufferTooSmall, TooManyDeltas, NotEmpty, NotGranted, OtherUser, InHand, DateOrTime, Comment, Script, FirstText, NoSuchLine, ReadBufferShort, NotALine, NoRoom, OtherLength, NoDraft, TextForm, BlockForm}
@@ -72,6 +74,10 @@ layered c k = record { cause = c; place = 0; serial = 0; layer = k }
 
 abbrev pub numbered : Cause → ℕ → Fault
 numbered c n = record { cause = c; place = 0; serial = n; layer = 0 }
+
+abbrev pub four_numbers : Fault → List ℕ
+four_numbers f =
+    decimal (number_of f.cause) ++ (codes " " ++ (decimal f.place ++ (codes " " ++ (decimal f.serial ++ (codes " " ++ decimal f.layer)))))
 
 abbrev pub Refusal : Type 0
 Refusal = Option Fault

@@ -9,13 +9,14 @@
 -- LawfulKind k    a kind, 1 to 255
 -- line_of ls n    line n, counted from 1
 -- lacks ls n      there is no line n
+-- fetched ls n    line n, if there is one
 -- total ls        the bytes of all lines, LF not counted
 -- fronted l buf   the line at the front of the buffer, the rest kept
 -- draft_lines d   the lines of a draft; none where it is absent
 -- room lim d l    the line l more in the draft d passes no limit; lim is the pair (lines, bytes)
 -- put_refusal ..  the refusal of putting a line of some length into a buffer
 -- x_refusal ..    the refusal of the call x; its checks stand in their order
-use Rattle.std.specs.Prelude.{◌≡◌, ℕ, ◌+◌, ◌-◌, ◌≤◌, Bool, true, not, ◌&&◌, ◌||◌, List, [], ◌∷◌, ◌++◌, length, drop, Some, None, Option, ◌==◌, nat_le, nat_lt, slice_index_or}
+use Rattle.std.specs.Prelude.{◌≡◌, ℕ, ◌+◌, ◌-◌, ◌≤◌, Bool, true, cond, not, ◌&&◌, ◌||◌, List, [], ◌∷◌, ◌++◌, length, drop, Some, None, Option, ◌==◌, nat_le, nat_lt, slice_index_or}
 use Rattle.std.specs.List.{AllByRecursion}
 use Rattle.lines.specs.declared.fault.Cause.TheVariants.{NoSuchLine, ReadBufferShort, NotALine, NoRoom, OtherLength, NoDraft}
 use Rattle.lines.specs.Faults.{Refusal, accepted, plain, when}
@@ -48,6 +49,9 @@ line_of ls n = slice_index_or ls (n - 1) []
 
 abbrev pub lacks : List Line → ℕ → Bool
 lacks ls n = n == 0 || nat_lt (length ls) n
+
+abbrev pub fetched : List Line → ℕ → Option Line
+fetched ls n = cond (lacks ls n) None (Some (line_of ls n))
 
 abbrev pub total : List Line → ℕ
 total [] = 0

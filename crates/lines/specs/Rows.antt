@@ -4,6 +4,7 @@
 -- before b rs       the rows rs with one byte more before the first
 -- rows bs           the rows of the bytes bs
 -- wrong n r         the row r cannot be line n
+-- is_whole bs       a row's bytes with its LF: an LF ends them, and at most 240 bytes stand before it
 -- first_wrong n rs  the number of the first wrong row, counted from n; 0 for none
 -- wrong_row bs      the number of the first row that is over 240 bytes, is row 4,001 or lacks its LF; 0 for none
 -- row_len bs        how many bytes stand before the first LF
@@ -16,12 +17,12 @@
 -- spot p bs n       where that part lies in memory, for bytes that lie at a block and an offset p
 -- line_in bs n      line n
 -- Marked bs xs      xs has the places of rows 1, 65, 129 and so on
-use Rattle.std.specs.Prelude.{◌≡◌, ℕ, ◌+◌, ◌-◌, ◌*◌, ◌<◌, Bool, true, false, cond, not, ◌||◌, List, [], ◌∷◌, map, length, take, Some, None, Ok, Err, sum_by, Option, Result, ◌==◌, nat_lt, slice_index}
+use Rattle.std.specs.Prelude.{◌≡◌, ℕ, ◌+◌, ◌-◌, ◌*◌, ◌<◌, Bool, true, false, cond, not, ◌&&◌, ◌||◌, List, [], ◌∷◌, map, length, take, Some, None, Ok, Err, sum_by, Option, Result, ◌==◌, nat_le, nat_lt, slice_index}
 use Rattle.std.specs.List.{prefix_len, between}
 use Rattle.lines.specs.declared.fault.Fault.{Fault}
 use Rattle.lines.specs.declared.fault.Cause.TheVariants.{TextForm}
 use Rattle.lines.specs.Faults.{placed}
-use Rattle.lines.specs.Lines.{lacks, line_of}
+use Rattle.lines.specs.Lines.{lacks, line_of, fetched}
 
 -- a row's bytes, and whether an LF stands after them: only the last row can lack it
 pub record Row : Type 0 where
@@ -43,6 +44,10 @@ rows (b ∷ bs) = cond (b == 10) (row [] true ∷ rows bs) (before b (rows bs))
 -- row n is over 240 bytes, is row 4,001, or lacks its LF
 abbrev pub wrong : ℕ → Row → Bool
 wrong n r = nat_lt 240 (length r.bytes) || (n == 4001 || not r.ended)
+
+-- the bytes of a row, with its LF if it has one, are a line of at most 240 bytes and LF
+abbrev pub is_whole : List ℕ → Bool
+is_whole bs = nat_lt 0 (length bs) && (slice_index bs (length bs - 1) == 10 && nat_le (length bs - 1) 240)
 
 -- the number of the first wrong row, counted from n; 0 where there is none
 abbrev pub first_wrong : ℕ → List Row → ℕ
@@ -89,7 +94,7 @@ spot p bs n = cond (lacks (lines_in bs) n) None (Some (p.0, start_of (lines_in b
 
 -- line n
 abbrev pub line_in : List ℕ → ℕ → Option (List ℕ)
-line_in bs n = cond (lacks (lines_in bs) n) None (Some (line_of (lines_in bs) n))
+line_in bs n = fetched (lines_in bs) n
 
 -- entry k of the marks is where row 64 × k + 1 begins
 abbrev pub Marked : List ℕ → List ℕ → Type 0

@@ -1,5 +1,8 @@
-ghost use Rattle.std.specs.Prelude.{◌≡◌};
-ghost use Rattle.lines.specs.Faults.{number_of, cause_of, plain, placed, layered, numbered};
+ghost use Rattle.std.specs.Prelude.{◌≡◌, Some};
+ghost use Rattle.lines.specs.Faults.{number_of, cause_of, plain, placed, layered, numbered, four_numbers};
+
+use std::error::Error;
+use std::fmt;
 
 // Why a call is refused. Each case has the number of its refusal.
 #[derive(Clone, Copy, Debug, PartialEq, Eq)]
@@ -90,3 +93,18 @@ impl Fault {
         Fault { serial, ..fault }
     }
 }
+
+// The four numbers of a refusal: number, place, serial and layer.
+impl fmt::Display for Fault {
+    ghost output = { λ f. Some (four_numbers f) };
+
+    fn fmt<W: fmt::Write>(&self, f: &mut fmt::Formatter<W>) -> fmt::Result {
+        let number = self.cause.number();
+        let place = self.place;
+        let serial = self.serial;
+        let layer = self.layer;
+        write!(f, "{number} {place} {serial} {layer}")
+    }
+}
+
+impl Error for Fault {}

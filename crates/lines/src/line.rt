@@ -1,9 +1,10 @@
-ghost use Rattle.std.specs.Prelude.{◌≡◌, ◌≤◌, length, take};
+ghost use Rattle.std.specs.Prelude.{◌≡◌, ℕ, ◌≤◌, List, length, take, IfSome};
 ghost use Rattle.lines.specs.Faults.{verdict, left};
-ghost use Rattle.lines.specs.Lines.{is_line, line_of, fronted, put_refusal, read_refusal};
+ghost use Rattle.lines.specs.Lines.{is_line, fetched, fronted, put_refusal};
 
 use crate::fault::{Cause, Fault};
 use crate::source::LineSource;
+use std::marker::Model;
 
 // The byte that ends a line of a text.
 pub const LF: u8 = 10;
@@ -15,15 +16,7 @@ pub const LONGEST: usize = 240;
 pub fn is_line(line: &[u8]) -> bool
     ensures { result ≡ is_line line.now }
 {
-    if line.len() > LONGEST {
-        return false;
-    }
-    for b in line {
-        if *b == LF {
-            return false;
-        }
-    }
-    true
+    line.len() <= LONGEST && !line.contains(&LF)
 }
 
 // Puts a line at the front of the buffer, keeps the rest and answers the length.
@@ -39,12 +32,36 @@ pub fn put_line(line: &[u8], buf: &mut [u8]) -> Result<usize, Fault>
     Ok(len)
 }
 
-// Reads line n and answers its length, 0 where the read is refused. A buffer of 240 bytes has room for any line.
-pub fn fetch<S: LineSource>(source: &S, n: usize, buf: &mut [u8]) -> usize
-    ensures len { result ≡ left (read_refusal (S.LineSource.lines source.now) n (length buf.old)) (length (line_of (S.LineSource.lines source.now) n)) 0 }
-    ensures bytes { buf.new ≡ left (read_refusal (S.LineSource.lines source.now) n (length buf.old)) (fronted (line_of (S.LineSource.lines source.now) n) buf.old) buf.old }
-    ensures fits { result ≤ length buf.old }
-    ensures whole { 1 ≤ n → 240 ≤ length buf.old → take result buf.new ≡ line_of (S.LineSource.lines source.now) n }
+// A line that was fetched, in room of its own.
+#[derive(Drop)]
+pub struct Fetched {
+    bytes: [u8; LONGEST],
+    len: usize,
+}
+
+impl Model for Fetched {
+    ghost Value = { List ℕ };
+
+    ghost view = { λ l. take l.len l.bytes };
+
+    ghost invariant = { λ l. l.len ≤ 240 };
+}
+
+impl Fetched {
+    // The bytes of the line.
+    pub fn as_slice(&self) -> &[u8]
+        ensures { result.now ≡ self.now }
+    {
+        &self.bytes[..self.len]
+    }
+}
+
+// Line n of a source, counted from 1, if it has that line.
+pub fn fetch<S: LineSource>(source: &S, n: usize) -> Option<Fetched>
+    ensures line { result ≡ fetched (S.LineSource.lines source.now) n }
+    ensures short { IfSome result (λ l. length l ≤ 240) }
 {
-    source.read(n, buf).unwrap_or(0)
+    let mut bytes = [0; LONGEST];
+    let len = source.read(n, &mut bytes).ok()?;
+    Some(Fetched { bytes, len })
 }

@@ -1,11 +1,11 @@
-ghost use Rattle.std.specs.Prelude.{◌≡◌, length};
+ghost use Rattle.std.specs.Prelude.{◌≡◌, ◌≤◌, length};
 ghost use Rattle.std.specs.Option.{option_map};
-ghost use Rattle.lines.specs.Rows.{rows, wrong_row, checked, held, lines_in, part, line_in, spot, Marked};
+ghost use Rattle.lines.specs.Rows.{rows, wrong_row, checked, held, lines_in, start_of, part, line_in, spot, Marked};
 ghost use Rattle.lines.specs.TextLaws.{lawful};
 
 use crate::fault::{Cause, Fault};
 use crate::line::put_line;
-use crate::rows::{MARKS, mark_starts, row_end, row_start, scan};
+use crate::rows::{MARKS, STEP, mark_starts, row_len, scan};
 use crate::source::LineSource;
 
 // Kind 1: bytes held for reading, each line ended by LF. The places of some lines are kept, so that a read does not
@@ -36,7 +36,7 @@ impl<'a> Text<'a> {
     {
         match scan(bytes) {
             Ok(count) => {
-                let starts = mark_starts(bytes, count);
+                let starts = mark_starts(bytes);
                 Text {
                     bytes,
                     count,
@@ -61,9 +61,25 @@ impl<'a> Text<'a> {
             return None;
         }
         let bytes = self.bytes;
-        let start = row_start(bytes, &self.starts, n);
-        let end = row_end(bytes, start);
+        let start = self.start(n);
+        let end = start + row_len(&bytes[start..]);
         Some(&bytes[start..end])
+    }
+
+    // Where line n begins: it is looked for from the mark before it.
+    fn start(&self, n: usize) -> usize
+        requires from { 1 ≤ n }
+        requires to { n ≤ self.now.count }
+        ensures is { result ≡ start_of (lines_in self.now.bytes.now) n }
+        ensures within { result ≤ length self.now.bytes.now }
+    {
+        let bytes = self.bytes;
+        let mark = (n - 1) / STEP;
+        let mut at = self.starts[mark];
+        for _ in STEP * mark + 1..n {
+            at += row_len(&bytes[at..]) + 1;
+        }
+        at
     }
 }
 

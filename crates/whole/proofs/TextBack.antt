@@ -2,13 +2,11 @@
 use Rattle.std.proofs.Common.{◌≡◌, ℕ, ◌+◌, ◌-◌, ◌<◌, ◌≤◌, true, false, not, eqb, leb, List, [], ◌∷◌, ◌++◌, map, length, get_or, take, drop, set, sym, refl, ap, ◌∙◌, append_assoc, arith, length-append}
 use Rattle.std.specs.List.{AllByRecursion}
 use borrow.Rule.Slice.PartMut.{put_mid}
-use Rattle.std.proofs.lemmas.List.{take_at, take_more, drop_more, drop-drop, length-take, set_at}
-use Rattle.std.proofs.lemmas.Slice.{drop-append-drop}
+use Rattle.std.proofs.lemmas.List.{drop_more, drop-drop, length-take, set_at}
 use Rattle.std.proofs.lemmas.Bool.{and_parts, not-true, leb-true, le-ltb, ne_eqb, eq-eqb, or_from, cond-true, cond-false}
-use Rattle.lines.specs.Lines.{Line, no_lf, is_line, Lawful, line_of, total, fronted}
+use Rattle.lines.specs.Lines.{Line, no_lf, is_line, Lawful, total}
 use Rattle.lines.specs.Rows.{row, rows, before, wrong, first_wrong, wrong_row, lines_in, held}
 use Rattle.whole.specs.Whole.{text_of}
-use Rattle.whole.proofs.WholeLaws.{total-more, total-front}
 
 -- a line and its LF are the first row
 row_of : (l rest : List ℕ) → no_lf l ≡ true → rows (l ++ (10 ∷ rest)) ≡ row l true ∷ rows rest
@@ -43,24 +41,6 @@ pub text_size : (ls : List Line) → length (text_of ls) ≡ total ls + length l
 text_size [] = refl
 text_size (l ∷ ls) = omega (arith, length-append l (10 ∷ text_of ls), text_size ls)
 
-pub text_push : (ls : List Line) (l : Line) → text_of (ls ++ (l ∷ [])) ≡ text_of ls ++ (l ++ (10 ∷ []))
-text_push [] l = refl
-text_push (k ∷ ls) l = ap (λ t. k ++ (10 ∷ t)) (text_push ls l) ∙ sym (simp append_assoc refl)
-
--- one line more in a buffer that begins with a text
-pub text_more : (ls : List Line) (buf : List ℕ) (i : ℕ) (t l : List ℕ) (at : ℕ) → t ≡ text_of (take i ls) → l ≡ line_of ls (i + 1) → at ≡ length t → i < length ls → at + length l < length buf → take at (fronted t buf) ++ (l ++ (10 ∷ drop (at + length l + 1) (fronted t buf))) ≡ fronted (text_of (take (i + 1) ls)) buf
-text_more ls buf i t l at is line here h room =
-    let back : i + 1 - 1 ≡ i = omega arith in
-    let next : text_of (take (i + 1) ls) ≡ t ++ (l ++ (10 ∷ [])) =
-    ap text_of (take_more ls i [] h) ∙ text_push (take i ls) (get_or ls i []) ∙ (λ k. sym is k ++ (get_or ls (sym back k) [] ++ (10 ∷ []))) ∙ ap (λ x. t ++ (x ++ (10 ∷ []))) (sym line) in
-    let front : take at (fronted t buf) ≡ t = take_at t (drop (length t) buf) at (sym here) in
-    let rest : drop (at + length l + 1) (fronted t buf) ≡ drop (at + length l + 1) buf = drop-append-drop (length t) buf t (at + length l + 1) (omega arith) refl in
-    let size : length (t ++ (l ++ (10 ∷ []))) ≡ at + length l + 1 = omega (arith, length-append t (l ++ (10 ∷ [])), length-append l (10 ∷ [])) in
-    (λ k. front k ++ (l ++ (10 ∷ rest k)))
-    ∙ sym (simp append_assoc refl)
-    ∙ ap (λ n. (t ++ (l ++ (10 ∷ []))) ++ drop n buf) (sym size)
-    ∙ ap (λ x. fronted x buf) (sym next)
-
 -- a line and its LF, put into a buffer as the code puts them
 pub row_put : (buf line : List ℕ) (at end : ℕ) → end ≡ at + length line → end < length buf → set (put_mid at (end - at) buf line) end 10 ≡ take at buf ++ (line ++ (10 ∷ drop (end + 1) buf))
 row_put buf line at end is room =
@@ -74,9 +54,3 @@ row_put buf line at end is room =
     ∙ ap (λ x. set x end 10) (sym (append_assoc (take at buf) line (get_or buf end 0 ∷ drop (end + 1) buf)))
     ∙ set_at (take at buf ++ line) (get_or buf end 0) (drop (end + 1) buf) 10 end front
     ∙ append_assoc (take at buf) line (10 ∷ drop (end + 1) buf)
-
--- where the whole text has room, the next line has
-pub row_room : (ls : List Line) (i at len space : ℕ) → at ≡ length (text_of (take i ls)) → len ≡ length (line_of ls (i + 1)) → i < length ls → total ls + length ls ≤ space → at + len < space
-row_room ls i at len space here is h room =
-    let front : length (take i ls) ≡ i = omega (arith, length-take i ls) in
-    omega (arith, text_size (take i ls), total-more ls i h, total-front ls (i + 1))

@@ -1,27 +1,20 @@
 -- Laws of the lines of a whole source: their bytes, and their room in a store. Assumes nothing.
-use Rattle.std.proofs.Common.{◌≡◌, ℕ, ◌+◌, ◌-◌, ◌<◌, ◌≤◌, true, false, not, ◌&&◌, eqb, leb, List, [], ◌∷◌, ◌++◌, length, get_or, take, drop, Some, None, sum_by, sym, refl, ap, ◌∙◌, ⊎_elim, arith}
+use Rattle.std.proofs.Common.{◌≡◌, ℕ, suc, ◌+◌, ◌<◌, ◌≤◌, true, false, not, ◌&&◌, eqb, leb, min, List, [], ◌∷◌, ◌++◌, length, length-append, get_or-append-add, get_or, take, Some, None, sum_by, sym, refl, ap, ◌∙◌, ⊎_elim, arith}
 use Rattle.std.specs.Str.{bytes_eq}
-use Rattle.std.proofs.lemmas.List.{length-take, take_more, drop_more, drop_all}
+use Rattle.std.specs.List.{position_or_len, zip}
+use Rattle.std.proofs.lemmas.List.{length-take}
 use Rattle.std.proofs.lemmas.Slice.Eq.{bytes_eq-Decides}
 use Rattle.std.proofs.lemmas.Bool.{cases_Bool, cond-true, cond-false, and_parts, and_from, leb-true, lt-ltb, le-leb, not_from_true}
-use Rattle.std.proofs.lemmas.List.Sums.{sum_by-cons, sum_by_more, sum_by-take-le}
+use Rattle.std.proofs.lemmas.List.Sums.{sum_by-cons}
 use Rattle.std.proofs.ByRecursion.{sum_by_le, All-get_or, All-weaker}
 use Rattle.lines.specs.Faults.{accepted}
-use Rattle.lines.specs.Lines.{Line, is_line, Lawful, line_of, total, add_refusal}
+use Rattle.lines.specs.Lines.{Line, is_line, Lawful, total, add_refusal}
 use Rattle.whole.specs.Whole.{differ_from, fits}
 use Rattle.lines.proofs.LineLaws.{line_short, check_passes}
 
-total-is : (ls : List Line) → total ls ≡ sum_by length ls
+pub total-is : (ls : List Line) → total ls ≡ sum_by length ls
 total-is [] = refl
 total-is (l ∷ ls) = ap (λ k. length l + k) (total-is ls) ∙ sym (sum_by-cons length l ls)
-
-pub total-more : (ls : List Line) (i : ℕ) → i < length ls → total (take (i + 1) ls) ≡ total (take i ls) + length (line_of ls (i + 1))
-total-more ls i h =
-    let back : i ≡ i + 1 - 1 = omega arith in
-    total-is (take (i + 1) ls) ∙ sum_by_more length ls i [] h ∙ ap (λ k. k + length (get_or ls i [])) (sym (total-is (take i ls))) ∙ ap (λ j. total (take i ls) + length (get_or ls j [])) back
-
-pub total-front : (ls : List Line) (i : ℕ) → total (take i ls) ≤ total ls
-total-front ls i = let a = total-is ls in let b = total-is (take i ls) in omega (arith, sum_by-take-le length ls i)
 
 pub total-most : (ls : List Line) → Lawful ls → total ls ≤ 960000
 total-most ls ok =
@@ -32,28 +25,6 @@ total-most ls ok =
 -- the length of a line that was read into a buffer with room for any
 pub read_length : (r : ℕ) (buf l : List ℕ) → take r buf ≡ l → r ≤ length buf → r ≡ length l
 read_length r buf l is within = let long = length-take r buf in omega (arith, ap length is)
-
--- the first difference of two lists: i lines are alike
-pub alike_more : (ls ms : List Line) (i : ℕ) → i < length ls → i < length ms → bytes_eq (line_of ls (i + 1)) (line_of ms (i + 1)) ≡ true → differ_from (i + 1 + 1) (drop (i + 1) ls) (drop (i + 1) ms) ≡ differ_from (i + 1) (drop i ls) (drop i ms)
-alike_more ls ms i h k same =
-    let back : i + 1 - 1 ≡ i = omega arith in
-    let here : bytes_eq (get_or ls i []) (get_or ms i []) ≡ true = ap (λ j. bytes_eq (get_or ls j []) (get_or ms j [])) (sym back) ∙ same in
-    sym ((λ t. differ_from (i + 1) (drop_more ls i [] h t) (drop_more ms i [] k t)) ∙ cond-true _ _ _ here)
-
-pub differ_here : (ls ms : List Line) (i : ℕ) → i < length ls → i < length ms → bytes_eq (line_of ls (i + 1)) (line_of ms (i + 1)) ≡ false → differ_from (i + 1) (drop i ls) (drop i ms) ≡ Some (i + 1)
-differ_here ls ms i h k other =
-    let back : i + 1 - 1 ≡ i = omega arith in
-    let here : bytes_eq (get_or ls i []) (get_or ms i []) ≡ false = ap (λ j. bytes_eq (get_or ls j []) (get_or ms j [])) (sym back) ∙ other in
-    (λ t. differ_from (i + 1) (drop_more ls i [] h t) (drop_more ms i [] k t)) ∙ cond-false _ _ _ here
-
-pub both_end : (ls ms : List Line) (i n : ℕ) → length ls ≤ i → length ms ≤ i → differ_from n (drop i ls) (drop i ms) ≡ None
-both_end ls ms i n h k = λ t. differ_from n (drop_all i ls h t) (drop_all i ms k t)
-
-pub first_longer : (ls ms : List Line) (i n : ℕ) → i < length ls → length ms ≤ i → differ_from n (drop i ls) (drop i ms) ≡ Some n
-first_longer ls ms i n h k = λ t. differ_from n (drop_more ls i [] h t) (drop_all i ms k t)
-
-pub second_longer : (ls ms : List Line) (i n : ℕ) → length ls ≤ i → i < length ms → differ_from n (drop i ls) (drop i ms) ≡ Some n
-second_longer ls ms i n h k = λ t. differ_from n (drop_all i ls h t) (drop_more ms i [] k t)
 
 -- where there is none the lists are equal
 pub equal_from : (n : ℕ) (ls ms : List Line) → differ_from n ls ms ≡ None → ls ≡ ms
@@ -69,24 +40,6 @@ equal_from n (l ∷ ls) (m ∷ ms) e =
     (λ (h : bytes_eq l m ≡ false). let never : Some n ≡ None = sym (cond-false _ _ _ h) ∙ e in let z : ◌≡◌ {A = ℕ} 0 1 = cc in absurd (omega arith))
     (cases_Bool (bytes_eq l m))
 
--- the next line of a source that fits has room in the draft of those before it
-module _ (lim : ℕ × ℕ) (ls : List Line) (ok : Lawful ls) (room' : fits lim ls ≡ true) (i : ℕ) (h : i < length ls) where
-  pub next_room : add_refusal (Some (take i ls)) lim (line_of ls (i + 1)) ≡ accepted
-  next_room =
-      let parts = (and_parts (not (eqb lim.0 0)) (leb (length ls) lim.0 && leb (total ls) lim.1) room').1 in
-      let both = and_parts (leb (length ls) lim.0) (leb (total ls) lim.1) parts in
-      let few : length ls ≤ lim.0 = leb-true _ _ both.0 in
-      let small : total ls ≤ lim.1 = leb-true _ _ both.1 in
-      let front : length (take i ls) < lim.0 = omega (arith, length-take i ls) in
-      let bytes : total (take i ls) + length (line_of ls (i + 1)) ≤ lim.1 = omega (arith, total-more ls i h, total-front ls (i + 1)) in
-      let is : is_line (line_of ls (i + 1)) ≡ true = All-get_or (λ l. is_line l ≡ true) ls (i + 1 - 1) [] (omega arith) ok.1 in
-      check_passes _ _ _ (not_from_true _ is) ∙ check_passes _ _ _ (not_from_true _ (and_from _ _ (lt-ltb _ _ front) (le-leb _ _ bytes)))
-
-  pub take_next : take i ls ++ (line_of ls (i + 1) ∷ []) ≡ take (i + 1) ls
-  take_next =
-      let back : i + 1 - 1 ≡ i = omega arith in
-      ap (λ j. take i ls ++ (get_or ls j [] ∷ [])) back ∙ sym (take_more ls i [] h)
-
 -- a list does not differ from itself
 pub no_difference : (n : ℕ) (ls : List Line) → differ_from n ls ls ≡ None
 no_difference n [] = refl
@@ -94,3 +47,62 @@ no_difference n (l ∷ ls) = cond-true _ _ _ ((bytes_eq-Decides l l).1 refl) ∙
 
 pub never_differ : (ls ms : List Line) → ls ≡ ms → differ_from 1 ls ms ≡ None
 never_differ ls ms same = ap (differ_from 1 ls) (sym same) ∙ no_difference 1 ls
+
+pub total-append : (ls ms : List Line) → total (ls ++ ms) ≡ total ls + total ms
+total-append [] ms = omega arith
+total-append (l ∷ ls) ms = omega (arith, total-append ls ms)
+
+-- a line that follows the draft d in lines that fit is taken
+pub next_taken : (lim : ℕ × ℕ) (ls d rest : List Line) (l : Line) → Lawful ls → fits lim ls ≡ true → d ++ (l ∷ rest) ≡ ls → add_refusal (Some d) lim l ≡ accepted
+next_taken lim ls d rest l ok room' split =
+    let parts = (and_parts (not (eqb lim.0 0)) (leb (length ls) lim.0 && leb (total ls) lim.1) room').1 in
+    let both = and_parts (leb (length ls) lim.0) (leb (total ls) lim.1) parts in
+    let few : length ls ≤ lim.0 = leb-true _ _ both.0 in
+    let small : total ls ≤ lim.1 = leb-true _ _ both.1 in
+    let count : length d + suc (length rest) ≡ length ls = sym (length-append d (l ∷ rest)) ∙ ap length split in
+    let bytes : total d + (length l + total rest) ≡ total ls = sym (total-append d (l ∷ rest)) ∙ ap total split in
+    let here : get_or ls (length d + 0) [] ≡ l = ap (λ x. get_or x (length d + 0) []) (sym split) ∙ get_or-append-add d (l ∷ rest) 0 [] in
+    let is : is_line l ≡ true = ap is_line (sym here) ∙ All-get_or (λ l. is_line l ≡ true) ls (length d + 0) [] (omega arith) ok.1 in
+    let front : length d < lim.0 = omega arith in
+    let more : total d + length l ≤ lim.1 = omega arith in
+    check_passes _ _ _ (not_from_true _ is) ∙ check_passes _ _ _ (not_from_true _ (and_from _ _ (lt-ltb _ _ front) (le-leb _ _ more)))
+
+-- where the first pair of unlike lines stands, if there is one, and the first line that only one list has
+abbrev pub unlike : List Line → List Line → ℕ
+unlike ls ms = position_or_len (λ p. not (bytes_eq p.0 p.1)) (zip ls ms)
+
+alike_step : (l m : Line) (ls ms : List Line) → bytes_eq l m ≡ true → unlike (l ∷ ls) (m ∷ ms) ≡ unlike ls ms + 1
+alike_step l m ls ms e = rw e (omega arith)
+
+unlike_here : (l m : Line) (ls ms : List Line) → bytes_eq l m ≡ false → unlike (l ∷ ls) (m ∷ ms) ≡ 0
+unlike_here l m ls ms e = rw e refl
+
+pub found_at : (n : ℕ) (ls ms : List Line) → unlike ls ms < length (zip ls ms) → differ_from n ls ms ≡ Some (n + unlike ls ms)
+found_at n [] ms h = absurd (omega arith)
+found_at n (l ∷ ls) [] h = absurd (omega arith)
+found_at n (l ∷ ls) (m ∷ ms) h =
+    ⊎_elim
+    (λ e. cond-true _ _ _ e ∙ found_at (n + 1) ls ms (omega (arith, alike_step l m ls ms e)) ∙ ap Some (omega (arith, alike_step l m ls ms e)))
+    (λ e. cond-false _ _ _ e ∙ ap Some (omega (arith, unlike_here l m ls ms e)))
+    (cases_Bool (bytes_eq l m))
+
+-- where no pair is unlike, the longer list tells
+pub all_alike : (n : ℕ) (ls ms : List Line) → length (zip ls ms) ≤ unlike ls ms → length ls ≡ length ms → differ_from n ls ms ≡ None
+all_alike n [] [] h e = refl
+all_alike n [] (m ∷ ms) h e = absurd (omega (arith, e))
+all_alike n (l ∷ ls) [] h e = absurd (omega (arith, e))
+all_alike n (l ∷ ls) (m ∷ ms) h same =
+    ⊎_elim
+    (λ e. cond-true _ _ _ e ∙ all_alike (n + 1) ls ms (omega (arith, alike_step l m ls ms e)) (omega (arith, same)))
+    (λ e. absurd (omega (arith, unlike_here l m ls ms e)))
+    (cases_Bool (bytes_eq l m))
+
+pub one_longer : (n : ℕ) (ls ms : List Line) → length (zip ls ms) ≤ unlike ls ms → (length ls ≡ length ms → ⊥) → differ_from n ls ms ≡ Some (n + min (length ls) (length ms))
+one_longer n [] [] h e = absurd (e refl)
+one_longer n [] (m ∷ ms) h e = ap Some (omega arith)
+one_longer n (l ∷ ls) [] h e = ap Some (omega arith)
+one_longer n (l ∷ ls) (m ∷ ms) h other =
+    ⊎_elim
+    (λ e. cond-true _ _ _ e ∙ one_longer (n + 1) ls ms (omega (arith, alike_step l m ls ms e)) (λ same. other (omega (arith, same))) ∙ ap Some (omega arith))
+    (λ e. absurd (omega (arith, unlike_here l m ls ms e)))
+    (cases_Bool (bytes_eq l m))

@@ -2,7 +2,7 @@ ghost use Rattle.std.specs.Prelude.{◌≡◌};
 ghost use Rattle.lines.specs.Lines.{total};
 ghost use Rattle.whole.specs.Whole.{fits};
 
-use lines::line::{LONGEST, fetch};
+use lines::each::Lines;
 use lines::source::LineSource;
 use lines::store::LineStore;
 
@@ -10,13 +10,7 @@ use lines::store::LineStore;
 pub fn total_bytes<S: LineSource>(source: &S) -> usize
     ensures { result ≡ total (S.LineSource.lines source.now) }
 {
-    let mut buf = [0u8; LONGEST];
-    let mut bytes = 0;
-    let count = source.count();
-    for i in 0..count {
-        bytes += fetch(source, i + 1, &mut buf);
-    }
-    bytes
+    Lines::of(source).map(|line| line.as_slice().len()).sum()
 }
 
 // Would the lines of a source pass no limit of a store?

@@ -4,8 +4,8 @@ ghost use Rattle.lines.specs.Stores.{meaning, rewritten, drafting};
 ghost use Rattle.whole.specs.Whole.{fits, whole_refusal};
 
 use crate::measure::has_room;
+use lines::each::Lines;
 use lines::fault::{Cause, Fault};
-use lines::line::{LONGEST, fetch};
 use lines::source::LineSource;
 use lines::store::LineStore;
 
@@ -34,11 +34,8 @@ fn add_all<S: LineSource, D: LineStore>(source: &S, store: &mut D) -> Result<(),
     ensures answer { result ≡ Ok tt }
     ensures store { meaning D.LineSource D.LineStore.own store.new ≡ drafting (S.LineSource.lines source.now) (meaning D.LineSource D.LineStore.own store.old) }
 {
-    let mut buf = [0u8; LONGEST];
-    let count = source.count();
-    for i in 0..count {
-        let len = fetch(source, i + 1, &mut buf);
-        store.add(&buf[0..len])?;
+    for line in Lines::of(source) {
+        store.add(line.as_slice())?;
     }
     Ok(())
 }

@@ -5,8 +5,9 @@ ghost use Rattle.lines.specs.Rows.{lines_in, held};
 ghost use Rattle.whole.specs.Whole.{row_at, row_refusal, text_of, text_refusal};
 
 use crate::measure::total_bytes;
+use lines::each::Lines;
 use lines::fault::{Cause, Fault};
-use lines::line::{LF, LONGEST, fetch};
+use lines::line::LF;
 use lines::source::LineSource;
 
 // Puts the lines of a source, each with its LF, at the front of the buffer, keeps the rest and answers their length. A
@@ -16,16 +17,14 @@ pub fn write_text<S: LineSource>(source: &S, buf: &mut [u8]) -> Result<usize, Fa
     ensures bytes { buf.new ≡ left (text_refusal (S.LineSource.lines source.now) (length buf.old)) (fronted (text_of (S.LineSource.lines source.now)) buf.old) buf.old }
     ensures back { lines_in (held (text_of (S.LineSource.lines source.now))) ≡ S.LineSource.lines source.now }
 {
-    let count = source.count();
-    if buf.len() < total_bytes(source) + count {
+    if buf.len() < total_bytes(source) + source.count() {
         return Err(Fault::plain(Cause::BufferTooSmall));
     }
-    let mut line = [0u8; LONGEST];
     let mut at = 0;
-    for i in 0..count {
-        let len = fetch(source, i + 1, &mut line);
-        put_row(&line[0..len], buf, at);
-        at += len + 1;
+    for line in Lines::of(source) {
+        let row = line.as_slice();
+        put_row(row, buf, at);
+        at += row.len() + 1;
     }
     Ok(at)
 }

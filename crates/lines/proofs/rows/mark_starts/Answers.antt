@@ -1,8 +1,10 @@
-use Rattle.std.proofs.Common.{◌≡◌, ℕ, ◌+◌, ◌*◌, ◌/◌, ◌%◌, ◌<◌, List, length, get_or, set, sym, refl, ap, ◌∙◌, subst, ⊎_elim, arith}
+use Rattle.std.proofs.Common.{rules, tests, ◌≡◌, ℕ, ◌+◌, ◌*◌, ◌/◌, ◌%◌, ◌<◌, List, length, get_or, set, eqb, sym, ap, ◌∙◌, subst, ⊎_elim, arith}
 use Rattle.std.proofs.lemmas.List.{get_or-set_same, get_or-set_other, length-set}
+use Rattle.std.proofs.lemmas.List.Sorted.{answers_always}
 use Rattle.std.proofs.lemmas.Bool.{cases_eq}
+use Rattle.std.specs.Iterator.Adapters.{enumerate_count}
 use Rattle.lines.specs.Rows.{lines_in, start_of}
-use Rattle.lines.proofs.RowLaws.{next_start, row_within}
+use Rattle.lines.proofs.RowLaws.{counted_step, behind, behind_start}
 use Rattle.lines.proofs.rows.mark_starts.Goals as goal
 use Rattle.lines.proofs.rows.mark_starts.Goals.{then-i-eq0, else-i-eq0}
 
@@ -26,31 +28,26 @@ passed_here bs starts i part below k h =
     let less : 64 * k < i = ⊎_elim (λ (e : 64 * k ≡ i). absurd (part (omega arith))) (λ (ne : 64 * k ≡ i → ⊥). omega arith) (cases_eq (64 * k) i) in
     below k less
 
-pub overflow_add-at : goal.overflow_add-at
-overflow_add-at c =
-    omega (arith, row_within c.args.bytes.now c.loop-i.at c.row_end-at.result (c.loop-i.i + 1) c.loop-i.invariant.1 c.row_end-at.ensures (omega arith) (omega arith))
-
-pub loop-i-init : goal.loop-i-init
-loop-i-init c = (refl, refl, λ k h. absurd (omega arith))
-
 pub loop-i-preserved : goal.loop-i-preserved
 loop-i-preserved c =
     let bs : List ℕ = c.args.bytes.now in
-    let i : ℕ = c.loop-i.i in
     let inv = c.loop-i.invariant in
-    let next : c.row_end-at.result + 1 ≡ start_of (lines_in bs) (i + 1 + 1) = next_start bs c.loop-i.at c.row_end-at.result (i + 1) inv.1 c.row_end-at.ensures (omega arith) (omega arith) in
-    elim c.if-i-eq0.branch [
-      | then-i-eq0 w ↦ (
-        ap length w.starts-is ∙ length-set c.loop-i.starts (i / 64) c.loop-i.at ∙ inv.0,
-        next,
-        subst (λ x. Below bs x (i + 1)) (sym w.starts-is) (marked_here bs c.loop-i.starts c.loop-i.at i inv.0 (omega arith) w.if-i-eq0.true inv.1 inv.2),
-      )
-      | else-i-eq0 w ↦ (
-        ap length w.starts-is ∙ inv.0,
-        next,
-        subst (λ x. Below bs x (i + 1)) (sym w.starts-is) (passed_here bs c.loop-i.starts i w.if-i-eq0.false inv.2),
-      )
-    ]
-
-pub returns : goal.returns
-returns c = λ k h. c.loop-i.invariant.2 k (omega arith)
+    let e = c.in-Some.ensures.steps in
+    let s = e.0 in
+    let first = (s.1.2 (λ b. eqb b 10) (answers_always _ _ _ (λ f a r f' k. search (rules, tests)))).1 in
+    let one = counted_step _ _ _ s.1.0 s.0 s.1.1 first s.2 in
+    let i : ℕ = c.in-Some.i in
+    let few : i < 4000 = omega (arith, e.1, inv.left, one, c.requires) in
+    let below : Below bs c.loop-i.starts i = subst (Below bs c.loop-i.starts) (sym e.1) inv.marked in
+    let start : c.loop-i.at ≡ start_of (lines_in bs) (i + 1) = inv.here s.2 ∙ ap (λ k. start_of (lines_in bs) (k + 1)) (sym e.1) in
+    let next : enumerate_count c.next.new.self ≡ i + 1 = omega (arith, e.1, e.2) in
+    record {
+      long = elim c.if-i-eq0.branch [ then-i-eq0 w ↦ ap length w.starts-is ∙ length-set _ _ _ ∙ inv.long | else-i-eq0 w ↦ ap length w.starts-is ∙ inv.long ];
+      rest_is = behind bs _ _ _ c.loop-i.at s.1.0 0 inv.rest_is s.0 s.1.1 first s.2;
+      left = omega (arith, e.2, inv.left, one);
+      here = λ more. behind_start bs _ _ _ c.loop-i.at s.1.0 _ inv.rest_is s.0 s.1.1 first s.2 (inv.here s.2) inv.left more ∙ ap (λ k. start_of (lines_in bs) (k + 1)) (sym e.2);
+      marked = subst (Below bs c.if-i-eq0.starts) (sym next) (elim c.if-i-eq0.branch [
+        | then-i-eq0 w ↦ subst (λ x. Below bs x (i + 1)) (sym w.starts-is) (marked_here bs c.loop-i.starts c.loop-i.at i inv.long few w.if-i-eq0.true start below)
+        | else-i-eq0 w ↦ subst (λ x. Below bs x (i + 1)) (sym w.starts-is) (passed_here bs c.loop-i.starts i w.if-i-eq0.false below)
+      ]);
+    }

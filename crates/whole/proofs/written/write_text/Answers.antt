@@ -1,26 +1,25 @@
-use Rattle.std.proofs.Common.{◌≡◌, ℕ, ◌+◌, ◌-◌, ◌<◌, ◌≤◌, List, ◌∷◌, ◌++◌, length, take, drop, Ok, Err, sym, refl, ap, ◌∙◌, arith}
-use native.Mathlib.Nat.{sub-zero}
-use Rattle.std.proofs.lemmas.List.{take_all, length-take}
+use Rattle.std.proofs.Common.{◌≡◌, ℕ, ◌+◌, ◌<◌, ◌≤◌, List, [], ◌∷◌, ◌++◌, length, length-append, take, drop, Ok, Err, sym, refl, ap, ◌∙◌, append_assoc, append-nil, arith}
+use Rattle.std.proofs.lemmas.List.{take-append-drop, take_at, drop_at, drop-drop, length-take}
 use Rattle.std.proofs.lemmas.Bool.{lt-ltb, le-ltb}
 use Rattle.lines.specs.declared.fault.Cause.TheVariants.{BufferTooSmall}
 use Rattle.lines.specs.Faults.{accepted, plain, verdict, left}
-use Rattle.lines.specs.Lines.{Line, line_of, fronted}
+use Rattle.lines.specs.Lines.{Line, fronted}
 use Rattle.whole.specs.Whole.{text_of}
 use Rattle.lines.proofs.LineLaws.{check_fails, check_passes}
-use Rattle.whole.proofs.WholeLaws.{total-more, total-most, read_length}
-use Rattle.whole.proofs.TextBack.{text_back, text_size, text_more, row_room}
+use Rattle.whole.proofs.WholeLaws.{total-most}
+use Rattle.whole.proofs.TextBack.{text_back, text_size}
 use Rattle.whole.proofs.written.write_text.Goals as goal
 
 pub overflow_add-total_bytes : goal.overflow_add-total_bytes
 overflow_add-total_bytes g c =
     let ok = g.S.LineSource.lawful c.args.source.now in
-    omega (arith, total-most (g.S.LineSource.lines c.args.source.now) ok, ok.0, c.total_bytes.ensures, c.count-count.ensures)
+    omega (arith, total-most (g.S.LineSource.lines c.args.source.now) ok, ok.0, c.total_bytes.ensures, c.count.ensures)
 
 pub returns-then-buf-total_bytes : goal.returns-then-buf-total_bytes
 returns-then-buf-total_bytes g c =
     let ls : List Line = g.S.LineSource.lines c.args.source.now in
     let buf : List ℕ = c.args.buf.now in
-    let short : length buf < length (text_of ls) = omega (arith, text_size ls, c.total_bytes.ensures, c.count-count.ensures) in
+    let short : length buf < length (text_of ls) = omega (arith, text_size ls, c.total_bytes.ensures, c.count.ensures) in
     let q = check_fails _ (plain BufferTooSmall) accepted (lt-ltb _ _ short) in
     record {
       answer = ap Err c.plain.ensures ∙ sym (ap (λ r. verdict r (length (text_of ls))) q);
@@ -28,56 +27,59 @@ returns-then-buf-total_bytes g c =
       back = text_back ls (g.S.LineSource.lawful c.args.source.now);
     }
 
--- line i + 1 as it was read
-module _ (ls : List Line) (i len : ℕ) (buf : List ℕ) (is : take len buf ≡ line_of ls (i + 1)) (fits' : len ≤ length buf) where
-  long : len ≡ length (line_of ls (i + 1))
-  long = read_length len buf (line_of ls (i + 1)) is fits'
+pub loop-line-init : goal.loop-line-init
+loop-line-init g c =
+    let ls : List Line = g.S.LineSource.lines c.args.source.now in
+    let all : c.into_iter-line-iterator.result ≡ ls = c.into_iter-line-iterator.ensures.into_iter_gives ∙ c.of-line-items.ensures in
+    record { front = ap text_of all; kept = refl; room = omega (arith, ap (λ r. length (text_of r)) all, text_size ls, c.total_bytes.ensures, c.count.ensures) }
 
-  line_is : take (len - 0) buf ≡ line_of ls (i + 1)
-  line_is = ap (λ k. take k buf) (sub-zero len) ∙ is
+-- the row of the next line has room
+row_room : (it rest : List Line) (line row : List ℕ) (at space : ℕ) → it ≡ line ∷ rest → row ≡ line → at + length (text_of it) ≤ space → at + (length row + 1) + length (text_of rest) ≤ space
+row_room it rest line row at space is same room = omega (arith, ap (λ r. length (text_of r)) is, length-append line (10 ∷ text_of rest), ap length same, room)
+
+-- a row more at `at`, in a buffer whose front has the lines before it
+module _ (buf new first line : List ℕ) (rest : List Line) (at : ℕ) (text : List ℕ) (is : new ≡ take at buf ++ (line ++ (10 ∷ drop (at + length line + 1) buf))) (room : at + (length line + 1) ≤ length buf) where
+  whole : new ≡ (take at buf ++ (line ++ (10 ∷ []))) ++ drop (at + length line + 1) buf
+  whole = is ∙ sym (simp append_assoc refl)
+
+  long : length (take at buf ++ (line ++ (10 ∷ []))) ≡ at + (length line + 1)
+  long = omega (arith, length-append (take at buf) (line ++ (10 ∷ [])), length-append line (10 ∷ []), length-take at buf)
+
+  front : take at buf ++ text_of (line ∷ rest) ≡ text → take (at + (length line + 1)) new ++ text_of rest ≡ text
+  front h = ap (λ b. take (at + (length line + 1)) b ++ text_of rest) whole ∙ ap (λ b. b ++ text_of rest) (take_at _ _ _ long) ∙ simp append_assoc refl ∙ h
+
+  kept : drop at buf ≡ drop at first → drop (at + (length line + 1)) new ≡ drop (at + (length line + 1)) first
+  kept h = ap (drop (at + (length line + 1))) whole ∙ drop_at _ _ _ long ∙ ap (λ k. drop k buf) (omega arith) ∙ sym (drop-drop (length line + 1) at buf) ∙ ap (drop (length line + 1)) h ∙ drop-drop (length line + 1) at first ∙ ap (λ k. drop k first) (omega arith)
 
 pub put_row-requires : goal.put_row-requires
 put_row-requires g c =
-    let ls : List Line = g.S.LineSource.lines c.args.source.now in
-    let i : ℕ = c.loop-i.i in
-    let read = c.fetch-len.ensures.whole (omega arith) (omega arith) in
-    let line = line_is ls i c.fetch-len.result c.fetch-len.new.buf read (omega arith) in
-    row_room ls i c.loop-i.at (length (take (c.fetch-len.result - 0) c.fetch-len.new.buf)) (length c.loop-i.buf) c.loop-i.invariant.1 (ap length line) (omega arith) (omega arith)
+    omega (arith, row_room _ _ _ c.as_slice-row.result.now _ (length c.loop-line.buf) c.in-Some.ensures.steps c.as_slice-row.ensures c.loop-line.invariant.room)
 
-pub overflow_add-at-in-loop-i : goal.overflow_add-at-in-loop-i
-overflow_add-at-in-loop-i g c =
-    let ls : List Line = g.S.LineSource.lines c.args.source.now in
-    let i : ℕ = c.loop-i.i in
-    let read = c.fetch-len.ensures.whole (omega arith) (omega arith) in
-    let size = long ls i c.fetch-len.result c.fetch-len.new.buf read (omega arith) in
-    omega (arith, row_room ls i c.loop-i.at c.fetch-len.result (length c.loop-i.buf) c.loop-i.invariant.1 size (omega arith) (omega arith))
-
-pub loop-i-preserved : goal.loop-i-preserved
-loop-i-preserved g c =
-    let ls : List Line = g.S.LineSource.lines c.args.source.now in
-    let i : ℕ = c.loop-i.i in
-    let t : List ℕ = text_of (take i ls) in
-    let l : List ℕ = take (c.fetch-len.result - 0) c.fetch-len.new.buf in
-    let read = c.fetch-len.ensures.whole (omega arith) (omega arith) in
-    let line = line_is ls i c.fetch-len.result c.fetch-len.new.buf read (omega arith) in
-    let size = long ls i c.fetch-len.result c.fetch-len.new.buf read (omega arith) in
-    let room : c.loop-i.at + length l < length c.args.buf.now = row_room ls i c.loop-i.at (length l) (length c.args.buf.now) c.loop-i.invariant.1 (ap length line) (omega arith) (omega arith) in
-    let front : length (take i ls) ≡ i = omega (arith, length-take i ls) in
-    let more : length (take (i + 1) ls) ≡ i + 1 = omega (arith, length-take (i + 1) ls) in (
-      c.fetch-len.auto.buf ∙ c.loop-i.invariant.0,
-      omega (arith, text_size (take i ls), text_size (take (i + 1) ls), total-more ls i (omega arith), c.loop-i.invariant.1),
-      c.put_row.ensures ∙ ap (λ b. take c.loop-i.at b ++ (l ++ (10 ∷ drop (c.loop-i.at + length l + 1) b))) c.loop-i.invariant.2 ∙ text_more ls c.args.buf.now i t l c.loop-i.at refl line c.loop-i.invariant.1 (omega arith) room,
-    )
+pub loop-line-preserved : goal.loop-line-preserved
+loop-line-preserved g c =
+    let inv = c.loop-line.invariant in
+    let row : List ℕ = c.as_slice-row.result.now in
+    let room = row_room _ _ _ row c.loop-line.at (length c.loop-line.buf) c.in-Some.ensures.steps c.as_slice-row.ensures inv.room in
+    let fits : c.loop-line.at + (length row + 1) ≤ length c.loop-line.buf = omega (arith, room) in
+    let ahead : c.loop-line.line-iterator ≡ row ∷ c.next.new.self = c.in-Some.ensures.steps ∙ ap (λ l. l ∷ c.next.new.self) (sym c.as_slice-row.ensures) in
+    record {
+      front = front c.loop-line.buf c.put_row.new.buf c.args.buf.now row c.next.new.self c.loop-line.at _ c.put_row.ensures fits (ap (λ r. take c.loop-line.at c.loop-line.buf ++ text_of r) (sym ahead) ∙ inv.front);
+      kept = kept c.loop-line.buf c.put_row.new.buf c.args.buf.now row c.next.new.self c.loop-line.at [] c.put_row.ensures fits inv.kept;
+      room = omega (arith, room, c.put_row.auto.buf);
+    }
 
 pub returns : goal.returns
 returns g c =
     let ls : List Line = g.S.LineSource.lines c.args.source.now in
     let buf : List ℕ = c.args.buf.now in
-    let room : length (text_of ls) ≤ length buf = omega (arith, text_size ls, c.total_bytes.ensures, c.count-count.ensures) in
+    let inv = c.loop-line.invariant in
+    let s = c.in-None.ensures.steps in
+    let room : length (text_of ls) ≤ length buf = omega (arith, text_size ls, c.total_bytes.ensures, c.count.ensures) in
     let q = check_passes _ (plain BufferTooSmall) accepted (le-ltb (length buf) (length (text_of ls)) room) in
-    let all = take_all c.loop-i.i ls (omega arith) in
+    let front : take c.loop-line.at c.loop-line.buf ≡ text_of ls = sym (append-nil _) ∙ ap (λ r. take c.loop-line.at c.loop-line.buf ++ text_of r) (sym s.0) ∙ inv.front in
+    let long : c.loop-line.at ≡ length (text_of ls) = omega (arith, ap length front, length-take c.loop-line.at c.loop-line.buf, inv.room) in
     record {
-      answer = ap Ok (c.loop-i.invariant.1 ∙ ap (λ k. length (text_of k)) all) ∙ sym (ap (λ r. verdict r (length (text_of ls))) q);
-      bytes = c.loop-i.invariant.2 ∙ ap (λ k. fronted (text_of k) buf) all ∙ sym (ap (λ r. left r (fronted (text_of ls) buf) buf) q);
+      answer = ap Ok long ∙ sym (ap (λ r. verdict r (length (text_of ls))) q);
+      bytes = sym (take-append-drop c.loop-line.at c.loop-line.buf) ∙ (λ t. front t ++ inv.kept t) ∙ ap (λ k. text_of ls ++ drop k buf) long ∙ sym (ap (λ r. left r (fronted (text_of ls) buf) buf) q);
       back = text_back ls (g.S.LineSource.lawful c.args.source.now);
     }

@@ -1,8 +1,12 @@
-use Rattle.std.proofs.Common.{◌≡◌, length, take}
-use Rattle.lines.specs.Lines.{fronted}
+use Rattle.std.proofs.Common.{◌≡◌, ◌+◌, ◌≤◌, ◌++◌, length, take, drop}
 use Rattle.whole.specs.Whole.{text_of}
 use Rattle.whole.proofs.written.write_text.Given as goal
 
-abbrev pub invariant-loop-i : goal.invariant-loop-i
-invariant-loop-i g l =
-    (length l.line ≡ 240) × (l.at ≡ length (text_of (take l.i (g.S.LineSource.lines l.source)))) × (l.buf ≡ fronted (text_of (take l.i (g.S.LineSource.lines l.source))) l.initial.buf)
+-- the front of the buffer and the text of the lines to come are the whole text
+abbrev pub invariant-loop-line : goal.invariant-loop-line
+invariant-loop-line g l =
+    record {
+      front : take l.at l.buf ++ text_of l.line-iterator ≡ text_of (g.S.LineSource.lines l.source);
+      kept : drop l.at l.buf ≡ drop l.at l.initial.buf;
+      room : l.at + length (text_of l.line-iterator) ≤ length l.buf;
+    }
