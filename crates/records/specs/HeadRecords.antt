@@ -7,8 +7,8 @@
 -- counts_record l   ^s, a blank and the counts
 -- comment_record l  ^c, a blank and the comment
 use Rattle.std.specs.Prelude.{ℕ, ◌+◌, Bool, true, false, cond, ◌&&◌, List, [], ◌∷◌, length, drop, Some, None, Option, ◌==◌, nat_le, slice_index}
-use Rattle.std.specs.List.{between}
-use Rattle.records.specs.Names.{every, comment}
+use Rattle.std.specs.List.{between, list_all}
+use Rattle.records.specs.Names.{comment}
 use Rattle.records.specs.Numerals.{digit}
 
 abbrev pub stands_at : ℕ → List ℕ → List ℕ → Bool
@@ -24,7 +24,7 @@ passes p (Some rest) = p rest
 
 abbrev pub counts : List ℕ → Bool
 counts w =
-    (length w == 17) && (slice_index w 5 == 47 && (slice_index w 11 == 47 && (every digit (between 0 5 w) && (every digit (between 6 11 w) && every digit (between 12 17 w)))))
+    (length w == 17) && (slice_index w 5 == 47 && (slice_index w 11 == 47 && (list_all digit (between 0 5 w) && (list_all digit (between 6 11 w) && list_all digit (between 12 17 w)))))
 
 abbrev pub counts_record : List ℕ → Bool
 counts_record l = passes counts (after (1 ∷ 115 ∷ 32 ∷ []) l)

@@ -1,21 +1,16 @@
 -- SIDs: release and level, or these and branch and sequence, joined by dots. Assumes nothing.
 --
 -- part w          the part that the word w writes: 1 to 9,999
--- part_at bs at   the part in the piece from `at` to the next dot (46), with the place where the piece ends
 -- sid_of r l b s  the SID of these four parts; an absent part is 0
 -- sid_from ws     the SID whose parts are the words ws: two, or four
 -- sid w           the SID that the word w writes
 use Rattle.std.specs.Prelude.{ℕ, cond, List, [], ◌∷◌, Some, None, Option, nat_lt}
-use Rattle.std.specs.Option.{option_map}
 use Rattle.records.specs.declared.sid.Sid.{Sid}
 use Rattle.records.specs.Numerals.{and_then, numeral}
-use Rattle.records.specs.Pieces.{cut, piece, piece_end}
+use Rattle.records.specs.Pieces.{cut}
 
 abbrev pub part : List ℕ → Option ℕ
 part w = and_then (numeral 4 w) (λ n. cond (nat_lt 0 n) (Some n) None)
-
-abbrev pub part_at : List ℕ → ℕ → Option (ℕ × ℕ)
-part_at bs at = option_map (λ n. (n, piece_end 46 bs at)) (part (piece 46 bs at))
 
 abbrev pub sid_of : ℕ → ℕ → ℕ → ℕ → Sid
 sid_of r l b s = record { release = r; level = l; branch = b; sequence = s }

@@ -18,9 +18,15 @@ pub fn read_record(line: &[u8], top: u8) -> Option<BodyRecord<'_>>
     ensures { meaning result ≡ record_of top line.now }
 {
     match line {
-        [1, b'I', b' ', word @ ..] => Some(BodyRecord::Insert(read_serial_up_to(word, top)?)),
-        [1, b'D', b' ', word @ ..] => Some(BodyRecord::Delete(read_serial_up_to(word, top)?)),
-        [1, b'E', b' ', word @ ..] => Some(BodyRecord::End(read_serial_up_to(word, top)?)),
+        [1, letter, b' ', word @ ..] => {
+            let serial = read_serial_up_to(word, top)?;
+            match letter {
+                b'I' => Some(BodyRecord::Insert(serial)),
+                b'D' => Some(BodyRecord::Delete(serial)),
+                b'E' => Some(BodyRecord::End(serial)),
+                _ => None,
+            }
+        }
         [1, ..] => None,
         _ => Some(BodyRecord::Text(line)),
     }

@@ -1,23 +1,25 @@
 ghost use Rattle.std.specs.Prelude.{◌≡◌, ◌<◌, IfSome};
-ghost use Rattle.records.specs.Calendar.{pair, triple, real_day, real_time};
+ghost use Rattle.records.specs.Calendar.{pair, triple, days_in, real_day, real_time};
 
-use crate::numeral::is_digit;
+// How many days a month has in a year of 1969 to 2068.
+fn days_in(year: u16, month: u8) -> u8
+    ensures { result ≡ days_in year month }
+{
+    match month {
+        2 if year % 4 == 0 => 29,
+        2 => 28,
+        4 | 6 | 9 | 11 => 30,
+        _ => 31,
+    }
+}
 
 // A day of 1969 to 2068.
 pub(crate) fn is_day(yy: u8, month: u8, day: u8) -> bool
     ensures { result ≡ real_day yy month day }
 {
-    let year = if yy >= 69 {
-        1900 + u16::from(yy)
-    } else {
-        2000 + u16::from(yy)
-    };
-    let days = match month {
-        2 => if year % 4 == 0 { 29 } else { 28 },
-        4 | 6 | 9 | 11 => 30,
-        _ => 31,
-    };
-    1 <= month && month <= 12 && 1 <= day && day <= days
+    let century = if yy >= 69 { 1900 } else { 2000 };
+    let days = days_in(century + u16::from(yy), month);
+    (1..=12).contains(&month) && (1..=days).contains(&day)
 }
 
 pub(crate) fn is_time(hour: u8, minute: u8, second: u8) -> bool
@@ -31,13 +33,13 @@ fn read_two(a: u8, b: u8) -> Option<u8>
     ensures value { result ≡ pair a b }
     ensures small { IfSome result (λ n. n < 100) }
 {
-    if !(is_digit(a) && is_digit(b)) {
+    if !(a.is_ascii_digit() && b.is_ascii_digit()) {
         return None;
     }
     Some((a - b'0') * 10 + (b - b'0'))
 }
 
-// Three numbers of two digits, joined by a mark.
+// Three numbers of two digits, joined by a mark. They stay a tuple: a date and a time name them differently.
 pub(crate) fn read_triple(word: &[u8], mark: u8) -> Option<(u8, u8, u8)>
     ensures { result ≡ triple mark word.now }
 {
@@ -47,8 +49,5 @@ pub(crate) fn read_triple(word: &[u8], mark: u8) -> Option<(u8, u8, u8)>
     if *s != mark || *t != mark {
         return None;
     }
-    let x = read_two(*a, *b)?;
-    let y = read_two(*c, *d)?;
-    let z = read_two(*e, *f)?;
-    Some((x, y, z))
+    Some((read_two(*a, *b)?, read_two(*c, *d)?, read_two(*e, *f)?))
 }

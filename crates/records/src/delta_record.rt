@@ -6,10 +6,10 @@ ghost use Rattle.records.specs.DeltaRecords.{six, field_words, delta_from, delta
 use crate::calendar::{is_day, is_time, read_triple};
 use crate::name::is_user;
 use crate::numeral::read_serial_number;
-use crate::piece::piece_end;
 use crate::sid::{Sid, read_sid};
 
-// What a delta record says; `real` where its date and time are real.
+// What a delta record says; `real` where its date and time are real. The flag stays: the project judges form apart from content, and a
+// record of the right form is taken apart whole.
 #[derive(Clone, Copy)]
 pub struct DeltaRecord {
     pub sid: Sid,
@@ -33,39 +33,19 @@ struct Fields<'a> {
 fn six_words(rest: &[u8]) -> Option<Fields<'_>>
     ensures { option_map field_words result ≡ six (cut 32 rest.now) }
 {
-    let len = rest.len();
-    let a = piece_end(rest, 0, b' ');
-    if a >= len {
-        return None;
+    let mut words = rest.split(|b| *b == b' ');
+    let fields = Fields {
+        sid: words.next()?,
+        date: words.next()?,
+        time: words.next()?,
+        user: words.next()?,
+        serial: words.next()?,
+        predecessor: words.next()?,
+    };
+    match words.next() {
+        None => Some(fields),
+        Some(_) => None,
     }
-    let b = piece_end(rest, a + 1, b' ');
-    if b >= len {
-        return None;
-    }
-    let c = piece_end(rest, b + 1, b' ');
-    if c >= len {
-        return None;
-    }
-    let d = piece_end(rest, c + 1, b' ');
-    if d >= len {
-        return None;
-    }
-    let e = piece_end(rest, d + 1, b' ');
-    if e >= len {
-        return None;
-    }
-    let f = piece_end(rest, e + 1, b' ');
-    if f < len {
-        return None;
-    }
-    Some(Fields {
-        sid: &rest[0..a],
-        date: &rest[a + 1..b],
-        time: &rest[b + 1..c],
-        user: &rest[c + 1..d],
-        serial: &rest[d + 1..e],
-        predecessor: &rest[e + 1..f],
-    })
 }
 
 // What the words say.

@@ -1,12 +1,11 @@
 ghost use Rattle.std.specs.Prelude.{◌≡◌, [], ◌∷◌};
+ghost use Rattle.std.specs.List.{list_all};
 ghost use Rattle.std.specs.Option.{option_map};
 ghost use Rattle.std.specs.Str.{bytes_eq};
-ghost use Rattle.records.specs.Names.{every};
 ghost use Rattle.records.specs.Numerals.{digit};
 ghost use Rattle.records.specs.HeadRecords.{after, counts_record, comment_record};
 
 use crate::name::is_comment;
-use crate::numeral::is_digit;
 
 // Is a record just this mark?
 pub fn is_mark(line: &[u8], mark: &[u8]) -> bool
@@ -17,27 +16,26 @@ pub fn is_mark(line: &[u8], mark: &[u8]) -> bool
 
 // Are all the bytes digits?
 fn are_digits(word: &[u8]) -> bool
-    ensures { result ≡ every digit word.now }
+    ensures { result ≡ list_all digit word.now }
 {
-    for b in word {
-        if !is_digit(*b) {
-            return false;
-        }
-    }
-    true
+    word.iter().all(|b| b.is_ascii_digit())
 }
 
 // The counts: three numbers of five digits, joined by "/".
 pub fn is_counts(line: &[u8]) -> bool
     ensures { result ≡ counts_record line.now }
 {
-    let [1, b's', b' ', rest @ ..] = line else {
-        return false;
-    };
-    if rest.len() != 17 || rest[5] != b'/' || rest[11] != b'/' {
-        return false;
+    match line {
+        [1, b's', b' ', rest @ ..] => {
+            rest.len() == 17
+                && rest[5] == b'/'
+                && rest[11] == b'/'
+                && are_digits(&rest[..5])
+                && are_digits(&rest[6..11])
+                && are_digits(&rest[12..])
+        }
+        _ => false,
     }
-    are_digits(&rest[0..5]) && are_digits(&rest[6..11]) && are_digits(&rest[12..17])
 }
 
 // A comment after its mark and a blank.

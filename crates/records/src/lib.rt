@@ -6,6 +6,5 @@ pub mod delta_record;
 pub mod head_record;
 mod name;
 mod numeral;
-mod piece;
 pub mod serial_list;
 pub mod sid;

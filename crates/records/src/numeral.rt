@@ -1,16 +1,10 @@
 ghost use Rattle.std.specs.Prelude.{◌≡◌, ◌^◌, ◌<◌, ◌≤◌, length, IfSome};
-ghost use Rattle.records.specs.Numerals.{digit, reads, numeral, serial_number, serial_up_to};
+ghost use Rattle.records.specs.Numerals.{reads, numeral, serial_number, serial_up_to};
 
 // The most digits of a serial.
 pub(crate) const SERIAL_DIGITS: usize = 5;
 
-pub(crate) fn is_digit(b: u8) -> bool
-    ensures { result ≡ digit b }
-{
-    b'0' <= b && b <= b'9'
-}
-
-// The number that up to five digits write.
+// The number that up to five digits write. A `for`, since a fold's closure would know no bound of n and had to check each sum.
 fn read_digits(word: &[u8]) -> Option<u32>
     requires { length word.now ≤ 5 }
     ensures value { result ≡ reads 0 word.now }
@@ -18,7 +12,7 @@ fn read_digits(word: &[u8]) -> Option<u32>
 {
     let mut n: u32 = 0;
     for b in word {
-        if !is_digit(*b) {
+        if !b.is_ascii_digit() {
             return None;
         }
         n = n * 10 + u32::from(*b - b'0');
@@ -32,17 +26,15 @@ pub(crate) fn read_numeral(word: &[u8], most: usize) -> Option<u32>
     ensures value { result ≡ numeral most word.now }
     ensures small { IfSome result (λ n. n < 10 ^ most) }
 {
-    let len = word.len();
-    if len < 1 || len > most {
-        return None;
+    match word {
+        [] | [b'0', _, ..] => None,
+        _ if word.len() > most => None,
+        _ => read_digits(word),
     }
-    if len != 1 && word[0] == b'0' {
-        return None;
-    }
-    read_digits(word)
 }
 
 // The serial that a word writes, whether a delta has it or not.
+#[tactic(auto, unfolding(crate::specs::Numerals::serial_number))]
 pub(crate) fn read_serial_number(word: &[u8]) -> Option<u32>
     ensures value { result ≡ serial_number word.now }
     ensures small { IfSome result (λ n. n < 100000) }
@@ -54,9 +46,6 @@ pub(crate) fn read_serial_number(word: &[u8]) -> Option<u32>
 pub(crate) fn read_serial_up_to(word: &[u8], top: u8) -> Option<u8>
     ensures { result ≡ serial_up_to top word.now }
 {
-    let n = read_serial_number(word)?;
-    if n < 1 || n > u32::from(top) {
-        return None;
-    }
-    Some(n as u8)
+    let n = u8::try_from(read_serial_number(word)?).ok()?;
+    (1..=top).contains(&n).then_some(n)
 }

@@ -1,7 +1,7 @@
 ghost use Rattle.std.specs.Prelude.{◌≡◌, ◌<◌, true};
 ghost use Rattle.records.specs.SerialLists.{serial_list, allowed};
 
-use crate::piece::read_serial_at;
+use crate::numeral::read_serial_number;
 use lines::fault::Cause;
 use sets::SerialSet;
 
@@ -17,25 +17,16 @@ fn is_allowed(n: u32, last: u32, own: u8, other: SerialSet) -> bool
 pub fn read_serials(rest: &[u8], own: u8, other: SerialSet) -> Result<SerialSet, Cause>
     ensures { result ≡ serial_list own other rest.now }
 {
-    let mut at = 0;
     let mut last = 0;
-    let mut set = SerialSet::empty();
-    let mut sound = true;
-    while at <= rest.len() {
-        let Some((n, end)) = read_serial_at(rest, at) else {
-            return Err(Cause::HeadForm);
+    // None once a serial is not allowed; the words after it are read for their form alone.
+    let mut list = Some(SerialSet::empty());
+    for word in rest.split(|b| *b == b' ') {
+        let n = read_serial_number(word).ok_or(Cause::HeadForm)?;
+        list = match list {
+            Some(set) if is_allowed(n, last, own, other) => Some(set.with(n as u8)),
+            _ => None,
         };
-        if sound && is_allowed(n, last, own, other) {
-            set = set.with(n as u8);
-            last = n;
-        } else {
-            sound = false;
-        }
-        at = end + 1;
+        last = n;
     }
-    if sound {
-        Ok(set)
-    } else {
-        Err(Cause::HeadContent)
-    }
+    list.ok_or(Cause::HeadContent)
 }

@@ -1,18 +1,10 @@
-use Rattle.std.proofs.Common.{◌≡◌, ◌-◌, [], ◌∷◌, length, take, drop, Some, None, sym, ap, ◌∙◌, rules}
+use Rattle.std.proofs.Common.{◌≡◌, ◌-◌, [], ◌∷◌, length, take, drop, Some, sym, ap, ◌∙◌, rules}
 use Rattle.std.proofs.lemmas.List.{take_rest}
 use Rattle.records.specs.Pieces.{cut}
 use Rattle.records.specs.Numerals.{and_then}
 use Rattle.records.specs.DeltaRecords.{six, delta_from, field_words}
 use Rattle.records.specs.HeadRecords.{after}
 use Rattle.records.proofs.delta_record.read_delta.Goals as goal
-
-pub returns-in_err-words : goal.returns-in_err-words
-returns-in_err-words c =
-    let line = c.args.line.now in
-    let t = take_rest line 5 in
-    let mark : after (1 ∷ 100 ∷ 32 ∷ 68 ∷ 32 ∷ []) line ≡ Some (drop 5 line) = search rules in
-    let none : six (cut 32 (take (length line - 5) (drop 5 line))) ≡ None = sym c.in_err-words.ensures in
-    c.from_residual.ensures ∙ sym (ap (λ o. and_then o (λ rest. and_then (six (cut 32 rest)) delta_from)) mark ∙ ap (λ r. and_then (six (cut 32 r)) delta_from) (sym t) ∙ ap (λ o. and_then o delta_from) none)
 
 pub returns : goal.returns
 returns c =

@@ -1,18 +1,14 @@
-use Rattle.std.proofs.Common.{◌≡◌, true, false, leb, length, sym, ◌∙◌, arith}
-use Rattle.std.proofs.lemmas.Bool.{and_from, and_right, le-leb}
-use Rattle.records.specs.Names.{every, user_byte}
-use Rattle.records.proofs.Bytes.{every_more, every_stop, every_end}
+use Rattle.std.proofs.Common.{◌≡◌, arith, rules}
+use Rattle.std.proofs.lemmas.Iterator.{YieldsList-from_slice}
+use Rattle.std.proofs.lemmas.Iterator.Search.{all_from_yields_List}
+use Rattle.std.proofs.lemmas.Grind.{common_steps}
+use Rattle.std.specs.List.{list_all}
+use borrow.Author.Tests.{tests}
+use Rattle.records.specs.Names.{user_byte}
 use Rattle.records.proofs.name.is_user.Goals as goal
 
-pub loop-b-preserved : goal.loop-b-preserved
-loop-b-preserved c = sym (every_more user_byte c.args.word.now c.loop-b.b-index c.loop-b-test.true (sym c.if-not-is_user_byte.ensures)) ∙ c.loop-b.invariant
-
-pub returns-then-not-is_user_byte : goal.returns-then-not-is_user_byte
-returns-then-not-is_user_byte c =
-    let no : every user_byte c.args.word.now ≡ false = sym c.loop-b.invariant ∙ every_stop user_byte c.args.word.now c.loop-b.b-index c.loop-b-test.true (sym c.if-not-is_user_byte.ensures) in
-    sym (and_right (leb 1 (length c.args.word.now)) _ (and_right (leb (length c.args.word.now) 8) _ no))
-
-pub returns : goal.returns
-returns c =
-    let yes : every user_byte c.args.word.now ≡ true = sym c.loop-b.invariant ∙ every_end user_byte c.args.word.now c.loop-b.b-index c.loop-b-test.false in
-    sym (and_from _ _ (le-leb 1 (length c.args.word.now) (omega arith)) (and_from _ _ (le-leb (length c.args.word.now) 8 (omega arith)) yes))
+pub returns-then-contains : goal.returns-then-contains
+returns-then-contains c =
+    let every : c.all.result ≡ list_all user_byte c.args.word.now = all_from_yields_List user_byte _ _ c.all.result c.all.ensures.ran (YieldsList-from_slice c.args.word.now cc) (λ x b q k. search (rules, tests)) in
+    let v = c.contains.ensures.value in
+    grind (arith, common_steps)

@@ -1,50 +1,42 @@
-use Rattle.std.proofs.Common.{◌≡◌, ◌+◌, ◌≤◌, true, false, ◌&&◌, length, Some, sym, ap, ◌∙◌, arith}
-use Rattle.std.proofs.lemmas.Bool.{and_left, and_right}
-use Rattle.sets.specs.Serials.{with_serial}
-use Rattle.records.specs.Pieces.{serial_at}
-use Rattle.records.specs.SerialLists.{numbers, allowed, serial_list}
-use Rattle.records.proofs.ListLaws.{judged, left, bad, taken, passed}
+use Rattle.std.proofs.Common.{◌≡◌, [], ◌∷◌, ◌++◌, length, drop, Some, None, Err, sym, ap, ◌∙◌, rules}
+use Rattle.std.specs.Result.{result_ok}
+use Rattle.lines.specs.declared.fault.Cause.TheVariants.{HeadForm}
+use borrow.Author.Tests.{tests}
+use Rattle.records.specs.Numerals.{serial_number}
+use Rattle.records.specs.Pieces.{cut}
+use Rattle.records.specs.SerialLists.{numbers}
+use Rattle.records.proofs.Cuts.{next_piece, none_left}
+use Rattle.records.proofs.ListLaws.{judged, finish, read, taken, refused, passed}
 use Rattle.records.proofs.serial_list.read_serials.Goals as goal
-use Rattle.records.proofs.serial_list.read_serials.Goals.{then-sound+then-is_allowed, else-sound, else-sound-via-then-sound+else-is_allowed, else-sound-via-else-sound}
 
-pub returns-in_default : goal.returns-in_default
-returns-in_default c =
-    sym (bad c.args.own c.args.other c.args.rest.now c.loop-at.at c.loop-at-test.true c.loop-at.sound c.loop-at.last c.loop-at.set (sym c.in_default.ensures.value)) ∙ c.loop-at.invariant.1
+pub loop-word-preserved-in-Some-list : goal.loop-word-preserved-in-Some-list
+loop-word-preserved-in-Some-list c =
+    let more = next_piece _ 32 c.args.rest.now c.into_iter-word-iterator.result (search rules) (search rules) (λ x b q k. search (rules, tests)) c.loop-word.yielded c.loop-word.word-iterator c.loop-word.yielded_by c.in-Some.word c.next.new.self c.in-Some.ensures.steps in
+    let n : serial_number c.in-Some.word.now ≡ Some c.in_ok-n.n = sym c.read_serial_number.ensures.value ∙ c.ok_or.ensures.ok_part ∙ ap result_ok c.in_ok-n.was in
+    ap (λ s. judged c.in_ok-n.n (Some s) c.args.own c.args.other (numbers (drop (length (c.loop-word.yielded ++ c.in-Some.word ∷ [])) (cut 32 c.args.rest.now)))) c.with.ensures.value
+    ∙ taken c.args.own c.args.other (cut 32 c.args.rest.now) c.loop-word.yielded c.in-Some.word more c.loop-word.last c.loop-word.list c.in_ok-n.n n c.in-Some-list.set c.in-Some-list.is (sym c.is_allowed.ensures.value ∙ c.if-is_allowed.true) ∙ c.loop-word.invariant
 
-pub loop-at-preserved : goal.loop-at-preserved
-loop-at-preserved c =
-    let own = c.args.own in
-    let other = c.args.other in
-    let bs = c.args.rest.now in
-    let at = c.loop-at.at in
-    let n = c.in-Some.n in
-    let end = c.in-Some.end in
-    let last = c.loop-at.last in
-    let set = c.loop-at.set in
-    let sound = c.loop-at.sound in
-    let rest = numbers (left bs (end + 1)) in
-    let inside : at ≤ length bs = c.loop-at-test.true in
-    let value : serial_at bs at ≡ Some (n, end) = sym c.in-Some.ensures.value in
-    let within : end ≤ length bs = c.in-Some.ensures.within.1 in
-    let so : judged sound last set own other (numbers (left bs at)) ≡ serial_list own other bs = c.loop-at.invariant.1 in
-    elim c.if-sound.branch [
-      | then-sound+then-is_allowed w ↦
-          let yes : allowed n last own other ≡ true = sym w.is_allowed.ensures.value ∙ w.if-is_allowed.true in
-          let l : c.if-sound.last ≡ n = w.last-is in
-          let m : c.if-sound.set ≡ with_serial set n = w.set-is ∙ w.with-set.ensures.value in
-          let s : c.if-sound.sound ≡ true = w.sound-is ∙ w.if-sound.true in
-          let t = taken own other bs at inside n end value last set yes in (
-            omega arith,
-            ap (λ x. judged x c.if-sound.last c.if-sound.set own other rest) s ∙ ap (λ x. judged true x c.if-sound.set own other rest) l ∙ ap (λ x. judged true n x own other rest) m
-                ∙ sym t ∙ ap (λ x. judged x last set own other (numbers (left bs at))) (sym w.if-sound.true) ∙ so,
-          )
-      | else-sound w ↦
-          let no : (sound && allowed n last own other) ≡ false = elim w.else-sound.branch [ else-sound-via-then-sound+else-is_allowed v ↦ and_right sound _ (sym v.is_allowed.ensures.value ∙ v.if-is_allowed.false) | else-sound-via-else-sound v ↦ and_left _ _ v.if-sound.false ] in
-          let l : c.if-sound.last ≡ last = w.last-is in
-          let m : c.if-sound.set ≡ set = w.set-is in
-          let s : c.if-sound.sound ≡ false = w.sound-is in
-          let t = passed own other bs at inside n end value sound last set no in (
-            omega arith,
-            ap (λ x. judged x c.if-sound.last c.if-sound.set own other rest) s ∙ ap (λ x. judged false x c.if-sound.set own other rest) l ∙ ap (λ x. judged false last x own other rest) m ∙ sym t ∙ so,
-          )
-    ]
+pub loop-word-preserved-in_default : goal.loop-word-preserved-in_default
+loop-word-preserved-in_default c =
+    let more = next_piece _ 32 c.args.rest.now c.into_iter-word-iterator.result (search rules) (search rules) (λ x b q k. search (rules, tests)) c.loop-word.yielded c.loop-word.word-iterator c.loop-word.yielded_by c.in-Some.word c.next.new.self c.in-Some.ensures.steps in
+    let n : serial_number c.in-Some.word.now ≡ Some c.in_ok-n.n = sym c.read_serial_number.ensures.value ∙ c.ok_or.ensures.ok_part ∙ ap result_ok c.in_ok-n.was in
+    refused c.args.own c.args.other (cut 32 c.args.rest.now) c.loop-word.yielded c.in-Some.word more c.loop-word.last c.loop-word.list c.in_ok-n.n n c.in-Some-list.set c.in-Some-list.is (sym c.is_allowed.ensures.value ∙ c.if-is_allowed.false) ∙ c.loop-word.invariant
+
+pub loop-word-preserved : goal.loop-word-preserved
+loop-word-preserved c =
+    let more = next_piece _ 32 c.args.rest.now c.into_iter-word-iterator.result (search rules) (search rules) (λ x b q k. search (rules, tests)) c.loop-word.yielded c.loop-word.word-iterator c.loop-word.yielded_by c.in-Some.word c.next.new.self c.in-Some.ensures.steps in
+    let n : serial_number c.in-Some.word.now ≡ Some c.in_ok-n.n = sym c.read_serial_number.ensures.value ∙ c.ok_or.ensures.ok_part ∙ ap result_ok c.in_ok-n.was in
+    passed c.args.own c.args.other (cut 32 c.args.rest.now) c.loop-word.yielded c.in-Some.word more c.loop-word.last c.loop-word.list c.in_ok-n.n n c.in_default.is ∙ c.loop-word.invariant
+
+pub returns-in_err-n : goal.returns-in_err-n
+returns-in_err-n c =
+    let more = next_piece _ 32 c.args.rest.now c.into_iter-word-iterator.result (search rules) (search rules) (λ x b q k. search (rules, tests)) c.loop-word.yielded c.loop-word.word-iterator c.loop-word.yielded_by c.in-Some.word c.next.new.self c.in-Some.ensures.steps in
+    let n : serial_number c.in-Some.word.now ≡ None = sym c.read_serial_number.ensures.value ∙ c.ok_or.ensures.ok_part ∙ ap result_ok c.in_err-n.was in
+    let form : c.from_residual.result ≡ Err HeadForm = search rules in
+    form ∙ sym (read c.args.own c.args.other (cut 32 c.args.rest.now) c.loop-word.yielded c.in-Some.word more c.loop-word.last c.loop-word.list None n) ∙ c.loop-word.invariant
+
+pub returns : goal.returns
+returns c =
+    let none = none_left _ 32 c.args.rest.now c.into_iter-word-iterator.result (search rules) (search rules) (λ x b q k. search (rules, tests)) c.loop-word.yielded c.loop-word.word-iterator c.loop-word.yielded_by c.next.new.self c.in-None.ensures.steps in
+    c.ok_or-2.ensures.value ∙ sym (finish c.args.own c.args.other c.loop-word.last c.loop-word.list)
+    ∙ ap (λ v. judged c.loop-word.last c.loop-word.list c.args.own c.args.other (numbers v)) (sym none) ∙ c.loop-word.invariant
