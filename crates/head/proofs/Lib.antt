@@ -4,3 +4,4 @@ pub mod TableLaws
 pub mod Turns
 pub mod Walks
 pub mod Wholes
+pub mod OldFetch

@@ -1,12 +1,13 @@
 ghost use Rattle.std.specs.Prelude.{◌≡◌, ◌+◌, ◌≤◌, [], ◌∷◌, length, take, IfOk, OnOk};
 ghost use Rattle.std.specs.Str.{bytes_eq};
 ghost use Rattle.lines.specs.Faults.{placed};
-ghost use Rattle.lines.specs.Lines.{line_of};
+ghost use Rattle.lines.specs.Faults.{left};
+ghost use Rattle.lines.specs.Lines.{line_of, fronted, read_refusal};
 ghost use Rattle.records.specs.HeadRecords.{counts_record, comment_record};
 ghost use Rattle.head.specs.Reading.{record_at, demand, delta_at, list_at};
 
 use lines::fault::{Cause, Fault};
-use lines::line::{LONGEST, fetch};
+use lines::line::LONGEST;
 use lines::source::LineSource;
 use records::delta_record::{DeltaRecord, read_delta};
 use records::head_record::{is_comment_record, is_counts, is_mark, list_after};
@@ -19,6 +20,16 @@ pub(crate) fn refuse(cause: Cause, place: usize) -> Fault
     ensures { result ≡ placed cause place }
 {
     Fault::at(cause, place as u16)
+}
+
+// Reads line n and answers its length, 0 where the read is refused. A buffer of 240 bytes has room for any line.
+fn fetch<S: LineSource>(source: &S, n: usize, buf: &mut [u8]) -> usize
+    ensures len { result ≡ left (read_refusal (S.LineSource.lines source.now) n (length buf.old)) (length (line_of (S.LineSource.lines source.now) n)) 0 }
+    ensures bytes { buf.new ≡ left (read_refusal (S.LineSource.lines source.now) n (length buf.old)) (fronted (line_of (S.LineSource.lines source.now) n) buf.old) buf.old }
+    ensures fits { result ≤ length buf.old }
+    ensures whole { 1 ≤ n → 240 ≤ length buf.old → take result buf.new ≡ line_of (S.LineSource.lines source.now) n }
+{
+    source.read(n, buf).unwrap_or(0)
 }
 
 // Reads the record at a place; a fault of form where the records end before it.

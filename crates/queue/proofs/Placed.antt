@@ -1,173 +1,151 @@
 -- Places in a list of slots by their keys.
-use Rattle.std.proofs.Common.{◌≡◌, ℕ, zero, suc, ◌+◌, ◌-◌, ◌<◌, ◌≤◌, true, false, cond, eqb, ltb, List, [], ◌∷◌, length, get_or, take, drop, Some, None, sym, refl, ap, ◌∙◌, ⊎_elim, suc-le-suc, arith}
+use Rattle.std.proofs.Common.{◌≡◌, ℕ, zero, suc, ◌+◌, ◌-◌, ◌<◌, ◌≤◌, true, false, eqb, List, [], ◌∷◌, length, get_or, take, drop, Some, None, Result, Ok, Err, MatchResult, sym, refl, ap, ◌∙◌, subst, suc-le-suc, arith}
 use Rattle.std.specs.List.{insert, remove}
-use Rattle.std.proofs.lemmas.List.{at_drop_more, map-append, take-map, drop-map, length-map}
+use Rattle.std.specs.List.Sorted.{IsSearchInRange, IsBinarySearchResult, IsNonDecreasingBy}
+use Rattle.std.specs.Result.{is_ok, result_ok}
+use Rattle.std.specs.Ordering.{nat_cmp, ordering_index}
+use Rattle.std.proofs.lemmas.Cmp.{ranked}
+use Rattle.std.proofs.lemmas.List.{map-append, take-map, drop-map, length-map, get_or-map, get_or-take, length-take}
 use Rattle.std.proofs.lemmas.List.Edits.{length-insert, get_or-insert_below, get_or-insert_at, get_or-insert_above, length-remove, get_or-remove_below, get_or-remove_above}
-use Rattle.std.proofs.lemmas.Bool.{cond_both, cond-true, cond-false, ltb-true, ltb-false, eq-eqb, ne_eqb, cases_lt, cases_order, cases_Bool, true≢false}
-use Rattle.queue.specs.Slots.{place, keys, Rising, holds, under, with_slot, without}
+use Rattle.std.proofs.lemmas.List.Recursion.{found_at, found_nowhere}
+use Rattle.std.proofs.lemmas.Bool.{cond-true, cond-false, eq-eqb, ne_eqb, lt-ltb, le-ltb}
+use Rattle.std.proofs.lemmas.Bool.Decides.{nat_tests}
+use Rattle.queue.specs.Slots.{keys, Rising, StandsAt, FitsAt, holds, under, with_slot, without}
 use Rattle.queue.specs.declared.slots.Slot.{Slot}
 
 pub tail_rises : (x : ℕ) (ks : List ℕ) → Rising (x ∷ ks) → Rising ks
 tail_rises x ks up i j l m = up (suc i) (suc j) (suc-le-suc l) (suc-le-suc m)
 
+rises_fewer : (ks : List ℕ) (m n : ℕ) → m ≤ n → Rising (take n ks) → Rising (take m ks)
+rises_fewer ks m n le up i j l h =
+    grind (arith, length-take m ks, length-take n ks, get_or-take m ks i 0, get_or-take m ks j 0, get_or-take n ks i 0, get_or-take n ks j 0, up i j)
+
 rises_removed : (ks : List ℕ) (at : ℕ) → at < length ks → Rising ks → Rising (remove ks at)
 rises_removed ks at h up i j l m =
-    let n = length-remove ks at h in
-    ⊎_elim
-    (λ (j<at : j < at). omega (arith, get_or-remove_below ks at 0 i (omega arith) h, get_or-remove_below ks at 0 j j<at h, up i j l (omega arith)))
-    (λ (at≤j : at ≤ j).
-    ⊎_elim
-    (λ (i<at : i < at). omega (arith, get_or-remove_below ks at 0 i i<at h, get_or-remove_above ks at 0 j at≤j h, up i (j + 1) (omega arith) (omega arith)))
-    (λ (at≤i : at ≤ i). omega (arith, get_or-remove_above ks at 0 i at≤i h, get_or-remove_above ks at 0 j at≤j h, up (i + 1) (j + 1) (omega arith) (omega arith)))
-    (cases_lt i at))
-    (cases_lt j at)
+    grind (arith, length-remove ks at h, get_or-remove_below ks at 0 i, get_or-remove_above ks at 0 i, get_or-remove_below ks at 0 j, get_or-remove_above ks at 0 j, up i j, up i (j + 1), up (i + 1) (j + 1))
 
--- what stands at a place of a list with x put in at `at`
-spot : (ks : List ℕ) (at x : ℕ) → at ≤ length ks → (j : ℕ) → at < j → get_or (insert ks at x) j 0 ≡ get_or ks (j - 1) 0
-spot ks at x h j l =
-    let e : j ≡ j - 1 + 1 = omega arith in
-    ap (λ n. get_or (insert ks at x) n 0) e ∙ get_or-insert_above ks at x 0 (j - 1) (omega arith) h
+module _ {E : Type 0} where
+  key : Slot E → ℕ
+  key s = s.key
 
-rises_inserted : (ks : List ℕ) (at x : ℕ) → at ≤ length ks → Rising ks → ((i : ℕ) → i < at → get_or ks i 0 < x) → ((i : ℕ) → at ≤ i → i < length ks → x < get_or ks i 0) → Rising (insert ks at x)
-rises_inserted ks at x h up lo hi i j l m =
-    let n = length-insert ks at x h in
-    let ins = insert ks at x in
-    let here : get_or ins at 0 ≡ x = get_or-insert_at ks at x 0 h in
-    ⊎_elim
-    (λ (e : j ≡ at).
-    let f : get_or ins j 0 ≡ x = ap (λ n. get_or ins n 0) e ∙ here in
-    omega (arith, get_or-insert_below ks at x 0 i (omega arith) h, lo i (omega arith)))
-    (⊎_elim
-    (λ (j<at : j < at). omega (arith, get_or-insert_below ks at x 0 i (omega arith) h, get_or-insert_below ks at x 0 j j<at h, up i j l (omega arith)))
-    (λ (at<j : at < j).
-    let q = spot ks at x h j at<j in
-    ⊎_elim
-    (λ (e : i ≡ at).
-    let f : get_or ins i 0 ≡ x = ap (λ n. get_or ins n 0) e ∙ here in
-    omega (arith, hi (j - 1) (omega arith) (omega arith)))
-    (⊎_elim
-    (λ (i<at : i < at). omega (arith, get_or-insert_below ks at x 0 i i<at h, up i (j - 1) (omega arith) (omega arith)))
-    (λ (at<i : at < i). omega (arith, spot ks at x h i at<i, up (i - 1) (j - 1) (omega arith) (omega arith))))
-    (cases_order i at)))
-    (cases_order j at)
+  -- the key of the slot at a place
+  key_at : (ss : List (Slot E)) (i : ℕ) (d : Slot E) → i < length ss → get_or (keys ss) i 0 ≡ (get_or ss i d).key
+  key_at ss i d l = get_or-map (λ (s : Slot E). s.key) ss i d 0 l
+
+  keys_inserted : (s : Slot E) (ss : List (Slot E)) (i : ℕ) → keys (insert ss i s) ≡ insert (keys ss) i s.key
+  keys_inserted s ss i = map-append _ (take i ss) (s ∷ drop i ss) ∙ sym (cc (take-map (λ (t : Slot E). t.key) i ss, drop-map (λ (t : Slot E). t.key) i ss))
+
+  keys-removed : (ss : List (Slot E)) (i : ℕ) → keys (remove ss i) ≡ remove (keys ss) i
+  keys-removed ss i = map-append _ (take i ss) (drop (suc i) ss) ∙ sym (cc (take-map (λ (t : Slot E). t.key) i ss, drop-map (λ (t : Slot E). t.key) (suc i) ss))
+
+  pub rises_front : (ss : List (Slot E)) (m n : ℕ) → m ≤ n → Rising (keys (take n ss)) → Rising (keys (take m ss))
+  rises_front ss m n le up = subst Rising (take-map _ m ss) (rises_fewer (keys ss) m n le (subst Rising (sym (take-map _ n ss)) up))
+
+  pub rises_without : (ss : List (Slot E)) (i : ℕ) → i < length ss → Rising (keys ss) → Rising (keys (remove ss i))
+  rises_without ss i l up =
+      let n = length-map ss (λ (t : Slot E). t.key) in
+      rw keys-removed (rises_removed (keys ss) i (omega arith) up)
+
+  pub rises_with : (s : Slot E) (ss : List (Slot E)) (at : ℕ) → Rising (keys ss) → FitsAt s.key ss at → Rising (keys (insert ss at s))
+  rises_with s ss at up fits =
+      rw keys_inserted (λ i j l m.
+      let ks = keys ss in
+      let n = length-map ss (λ (t : Slot E). t.key) in
+      let h : at ≤ length ks = omega (arith, fits.within) in
+      let long = length-insert ks at s.key h in
+      let here = get_or-insert_at ks at s.key 0 h in
+      grind (arith, get_or-insert_below ks at s.key 0 i, get_or-insert_above ks at s.key 0 (i - 1), get_or-insert_below ks at s.key 0 j, get_or-insert_above ks at s.key 0 (j - 1), up i j, up i (j - 1), up (i - 1) (j - 1), fits.before i, fits.after (j - 1)))
 
 module _ {E : Type 0} (k : ℕ) where
-  -- the place in what is left, one slot on
-  pub place_below : (ss : List (Slot E)) (i : ℕ) (d : Slot E) → i < length ss → ltb (get_or ss i d).key k ≡ true → place k (drop i ss) ≡ suc (place k (drop (i + 1) ss))
-  place_below ss i d h e =
-      let m : place k (drop i ss) ≡ cond (ltb (get_or ss i d).key k) (suc (place k (drop (i + 1) ss))) 0 = at_drop_more (place k) ss i d h in
-      m ∙ rw e
+  -- what a search by key finds among slots of rising keys
+  pub searched : (ss : List (Slot E)) → Rising (keys ss) → (r : Result ℕ ℕ) → IsSearchInRange r (length ss) → IsBinarySearchResult (λ (s : Slot E). nat_cmp s.key k) ss r → MatchResult r (StandsAt k ss) (FitsAt k ss)
+  searched [] up (Ok at) within is = absurd (omega arith)
+  searched [] up (Err at) within is = record { within = within; before = λ j l. absurd (omega arith); after = λ j _ l. absurd (omega arith) }
+  searched (s ∷ ss) up (Ok at) within is = (within, key_at (s ∷ ss) at s within ∙ ranked _ k _ (sym (is s)))
+  searched (s ∷ ss) up (Err at) within is =
+      let all = s ∷ ss in
+      let rises : IsNonDecreasingBy (λ (t : Slot E). ordering_index (nat_cmp t.key k)) all = λ i j d le l.
+      let n = length-map all (λ (t : Slot E). t.key) in
+      let ordered : (get_or all i d).key ≤ (get_or all j d).key = grind (arith, key_at all i d, key_at all j d, up i j, λ (same : i ≡ j). ap (λ m. (get_or all m d).key) same) in
+      grind (arith, nat_tests) in
+      record {
+        within = within;
+        before = λ j l. omega (arith, key_at all j s, ranked _ k _ (sym ((is rises).0 j s (omega arith) l)));
+        after = λ j le l. omega (arith, key_at all j s, ranked _ k _ (sym ((is rises).1 j s le l)));
+      }
 
-  pub place-above : (ss : List (Slot E)) (i : ℕ) (d : Slot E) → i < length ss → ltb (get_or ss i d).key k ≡ false → place k (drop i ss) ≡ 0
-  place-above ss i d h e =
-      let m : place k (drop i ss) ≡ cond (ltb (get_or ss i d).key k) (suc (place k (drop (i + 1) ss))) 0 = at_drop_more (place k) ss i d h in
-      m ∙ rw e
+  without_first : (ss : List (Slot E)) (i : ℕ) (d : Slot E) → i < length ss → ((j : ℕ) → j < i → eqb (get_or ss j d).key k ≡ false) → eqb (get_or ss i d).key k ≡ true → without k ss ≡ remove ss i
+  without_first [] i d l before here = absurd (omega arith)
+  without_first (s ∷ ss) zero d l before here = cond-true _ _ _ here
+  without_first (s ∷ ss) (suc i) d l before here = cond-false _ _ _ (before 0 (omega arith)) ∙ ap (λ ts. s ∷ ts) (without_first ss i d (omega arith) (λ j m. before (suc j) (suc-le-suc m)) here)
 
-  pub place_within : (ss : List (Slot E)) → place k ss ≤ length ss
-  place_within [] = omega arith
-  place_within (s ∷ ss) = cond_both (ltb s.key k) (suc (place k ss)) 0 (λ n. n ≤ suc (length ss)) (λ _. suc-le-suc (place_within ss)) (λ _. omega arith)
+  without_nowhere : (ss : List (Slot E)) (d : Slot E) → ((j : ℕ) → j < length ss → eqb (get_or ss j d).key k ≡ false) → without k ss ≡ ss
+  without_nowhere [] d none = refl
+  without_nowhere (s ∷ ss) d none = cond-false _ _ _ (none 0 (omega arith)) ∙ ap (λ ts. s ∷ ts) (without_nowhere ss d (λ j m. none (suc j) (suc-le-suc m)))
 
-  pub below : (ss : List (Slot E)) (i : ℕ) → i < place k ss → get_or (keys ss) i 0 < k
-  below [] i h = absurd (omega arith)
-  below (s ∷ ss) zero h =
-      cond_both (ltb s.key k) (suc (place k ss)) 0 (λ n. 0 < n → s.key < k) (λ e _. ltb-true _ _ e) (λ _ h. absurd (omega arith)) h
-  below (s ∷ ss) (suc i) h =
-      cond_both (ltb s.key k) (suc (place k ss)) 0 (λ n. suc i < n → get_or (keys ss) i 0 < k) (λ _ h. below ss i (omega arith)) (λ _ h. absurd (omega arith)) h
+  -- the slot that stands at a place is the first of its key
+  module _ (ss : List (Slot E)) (i : ℕ) (d : Slot E) (up : Rising (keys ss)) (at : StandsAt k ss i) where
+    passes : eqb (get_or ss i d).key k ≡ true
+    passes = eq-eqb _ _ (sym (key_at ss i d at.0) ∙ at.1)
 
-  pub above : (ss : List (Slot E)) → place k ss < length ss → k ≤ get_or (keys ss) (place k ss) 0
-  above [] h = absurd (omega arith)
-  above (s ∷ ss) h =
-      cond_both (ltb s.key k) (suc (place k ss)) 0 (λ n. n < suc (length ss) → k ≤ get_or (keys (s ∷ ss)) n 0) (λ _ h. above ss (omega arith)) (λ e _. ltb-false _ _ e) h
+    none_before : (j : ℕ) → j < i → eqb (get_or ss j d).key k ≡ false
+    none_before j l =
+        let n = length-map ss (λ (t : Slot E). t.key) in
+        ne_eqb _ _ (λ e. omega (arith, key_at ss j d, at.1, at.0, up j i l (omega (arith, at.0))))
 
-  pub held : (ss : List (Slot E)) (i : ℕ) → i < length ss → get_or (keys ss) i 0 ≡ k → holds k ss ≡ true
-  held [] i h e = absurd (omega arith)
-  held (s ∷ ss) zero h e = cond-true _ _ _ (eq-eqb s.key k e)
-  held (s ∷ ss) (suc i) h e = cond_both (eqb s.key k) true (holds k ss) (λ b. b ≡ true) (λ _. refl) (λ _. held ss i (omega arith) e)
+    held : holds k ss ≡ true
+    held = found_at (holds k) (λ s. eqb s.key k) (λ _. true) false refl (λ _ _. refl) ss i d at.0 none_before passes
 
-  not_held : (ss : List (Slot E)) → ((i : ℕ) → i < length ss → get_or (keys ss) i 0 ≡ k → ⊥) → holds k ss ≡ false
-  not_held [] h = refl
-  not_held (s ∷ ss) h = cond-false _ _ _ (ne_eqb s.key k (h 0 (omega arith))) ∙ not_held ss (λ i l. h (suc i) (suc-le-suc l))
+    under_at : under k ss ≡ Some (get_or ss i d).element
+    under_at = found_at (under k) (λ s. eqb s.key k) (λ s. Some s.element) None refl (λ _ _. refl) ss i d at.0 none_before passes
 
-  -- nothing stands at the place: nothing stands anywhere
-  pub missing : (ss : List (Slot E)) → Rising (keys ss) → (place k ss < length ss → get_or (keys ss) (place k ss) 0 ≡ k → ⊥) → holds k ss ≡ false
-  missing ss up no_one =
-      not_held ss (λ i l e.
-      let p = place k ss in
-      let n = length-map ss (λ (s : Slot E). s.key) in
-      ⊎_elim
-      (λ (same : i ≡ p). no_one (omega arith) (ap (λ j. get_or (keys ss) j 0) (sym same) ∙ e))
-      (⊎_elim
-      (λ (lt : i < p). omega (arith, below ss i lt))
-      (λ (lt : p < i). omega (arith, above ss (omega arith), up p i lt (omega arith))))
-      (cases_order i p))
+    removed_at : without k ss ≡ remove ss i
+    removed_at = without_first ss i d at.0 none_before passes
 
-  pub under_none : (ss : List (Slot E)) → holds k ss ≡ false → under k ss ≡ None
-  under_none [] h = refl
-  under_none (s ∷ ss) h =
-      ⊎_elim
-      (λ (e : eqb s.key k ≡ true). absurd (true≢false (sym (cond-true _ _ _ e) ∙ h)))
-      (λ (e : eqb s.key k ≡ false). cond-false _ _ _ e ∙ under_none ss (sym (cond-false _ _ _ e) ∙ h))
-      (cases_Bool (eqb s.key k))
+  -- what is read at the place where the key stands, of these slots or of more that begin with them
+  pub read_at : (xs ss : List (Slot E)) (i : ℕ) (d : Slot E) → Rising (keys ss) → StandsAt k ss i → ((e : Slot E) → get_or xs i e ≡ get_or ss i e) → Some (get_or xs i d).element ≡ under k ss
+  read_at xs ss i d up at same = ap (λ s. Some s.element) (same d) ∙ sym (under_at ss i d up at)
 
-  pub without_none : (ss : List (Slot E)) → holds k ss ≡ false → without k ss ≡ ss
-  without_none [] h = refl
-  without_none (s ∷ ss) h =
-      ⊎_elim
-      (λ (e : eqb s.key k ≡ true). absurd (true≢false (sym (cond-true _ _ _ e) ∙ h)))
-      (λ (e : eqb s.key k ≡ false). cond-false _ _ _ e ∙ ap (λ ts. s ∷ ts) (without_none ss (sym (cond-false _ _ _ e) ∙ h)))
-      (cases_Bool (eqb s.key k))
+  pub without_at : (ss : List (Slot E)) (i : ℕ) → Rising (keys ss) → StandsAt k ss i → without k ss ≡ remove ss i
+  without_at [] i up at = absurd (omega (arith, at.0))
+  without_at (s ∷ ss) i up at = removed_at (s ∷ ss) i s up at
 
-  -- a slot after the first of rising ones has another key than the first
-  other : (s : Slot E) (ss : List (Slot E)) (i : ℕ) → Rising (keys (s ∷ ss)) → i < length ss → get_or (keys ss) i 0 ≡ k → eqb s.key k ≡ false
-  other s ss i up l e =
-      let n = length-map ss (λ (t : Slot E). t.key) in
-      let m : s.key < get_or (keys ss) i 0 = up 0 (suc i) (omega arith) (omega arith) in
-      ne_eqb s.key k (λ f. omega arith)
+  -- where a new slot fits, none has its key
+  none_anywhere : (ss : List (Slot E)) (i : ℕ) (d : Slot E) → FitsAt k ss i → (j : ℕ) → j < length ss → eqb (get_or ss j d).key k ≡ false
+  none_anywhere ss i d fits j l = ne_eqb _ _ (λ e. grind (arith, key_at ss j d l, fits.before j, fits.after j))
 
-  pub under_at : (ss : List (Slot E)) (i : ℕ) (d : Slot E) → Rising (keys ss) → i < length ss → get_or (keys ss) i 0 ≡ k → under k ss ≡ Some (get_or ss i d).element
-  under_at [] i d up l e = absurd (omega arith)
-  under_at (s ∷ ss) zero d up l e = cond-true _ _ _ (eq-eqb s.key k e)
-  under_at (s ∷ ss) (suc i) d up l e = cond-false _ _ _ (other s ss i up (omega arith) e) ∙ under_at ss i d (tail_rises _ _ up) (omega arith) e
+  pub free : (ss : List (Slot E)) (i : ℕ) → FitsAt k ss i → record { holds : holds k ss ≡ false; under : under k ss ≡ None; without : without k ss ≡ ss }
+  free [] i fits = record { holds = refl; under = refl; without = refl }
+  free (s ∷ ss) i fits =
+      let none = none_anywhere (s ∷ ss) i s fits in
+      record {
+        holds = found_nowhere (holds k) (λ s. eqb s.key k) (λ _. true) false refl (λ _ _. refl) (s ∷ ss) s none;
+        under = found_nowhere (under k) (λ s. eqb s.key k) (λ s. Some s.element) None refl (λ _ _. refl) (s ∷ ss) s none;
+        without = without_nowhere (s ∷ ss) s none;
+      }
 
-  pub without_at : (ss : List (Slot E)) (i : ℕ) → Rising (keys ss) → i < length ss → get_or (keys ss) i 0 ≡ k → without k ss ≡ remove ss i
-  without_at [] i up l e = absurd (omega arith)
-  without_at (s ∷ ss) zero up l e = cond-true _ _ _ (eq-eqb s.key k e)
-  without_at (s ∷ ss) (suc i) up l e = cond-false _ _ _ (other s ss i up (omega arith) e) ∙ ap (λ ts. s ∷ ts) (without_at ss i (tail_rises _ _ up) (omega arith) e)
+  -- what a search tells: whether the key is held, and where
+  pub told : (ss : List (Slot E)) → Rising (keys ss) → (r : Result ℕ ℕ) → MatchResult r (StandsAt k ss) (FitsAt k ss) → is_ok r ≡ holds k ss
+  told [] up (Ok i) at = absurd (omega arith)
+  told (s ∷ ss) up (Ok i) at = sym (held (s ∷ ss) i s up at)
+  told ss up (Err i) fits = sym (free ss i fits).holds
 
-module _ {E : Type 0} (s : Slot E) where
-  pub with_slot_at : (ss : List (Slot E)) → with_slot s ss ≡ insert ss (place s.key ss) s
-  with_slot_at [] = refl
-  with_slot_at (t ∷ ts) =
-      ⊎_elim
-      (λ (e : ltb t.key s.key ≡ true). cond-true _ _ _ e ∙ ap (λ us. t ∷ us) (with_slot_at ts) ∙ ap (λ n. insert (t ∷ ts) n s) (sym (cond-true _ (suc (place s.key ts)) 0 e)))
-      (λ (e : ltb t.key s.key ≡ false). cond-false _ _ _ e ∙ ap (λ n. insert (t ∷ ts) n s) (sym (cond-false _ (suc (place s.key ts)) 0 e)))
-      (cases_Bool (ltb t.key s.key))
+  pub stands : (ss : List (Slot E)) (r : Result ℕ ℕ) → MatchResult r (StandsAt k ss) (FitsAt k ss) → {i : ℕ} → Some i ≡ result_ok r → StandsAt k ss i
+  stands ss (Ok j) at {i} is = let e : i ≡ j = cc in rw e at
+  stands ss (Err j) fits {i} is = cc
 
-  keys_inserted : (ss : List (Slot E)) (i : ℕ) → keys (insert ss i s) ≡ insert (keys ss) i s.key
-  keys_inserted ss i = map-append _ (take i ss) (s ∷ drop i ss) ∙ sym (cc (take-map (λ (t : Slot E). t.key) i ss, drop-map (λ (t : Slot E). t.key) i ss))
+  pub gap_fits : (ss : List (Slot E)) (r : Result ℕ ℕ) → MatchResult r (StandsAt k ss) (FitsAt k ss) → None ≡ result_ok r → (i : ℕ) × FitsAt k ss i
+  gap_fits ss (Ok j) at is = cc
+  gap_fits ss (Err j) fits is = (j, fits)
 
-  pub rises_with : (ss : List (Slot E)) → Rising (keys ss) → holds s.key ss ≡ false → Rising (keys (insert ss (place s.key ss) s))
-  rises_with ss up free =
-      let k = s.key in
-      let p = place k ss in
-      let n = length-map ss (λ (t : Slot E). t.key) in
-      let w = place_within k ss in
-      let r : Rising (insert (keys ss) p k) =
-      rises_inserted (keys ss) p k (omega arith) up (λ i l. below k ss i l) (λ i l m.
-      let a = above k ss (omega arith) in
-      let ne : get_or (keys ss) p 0 ≡ k → ⊥ = λ e. true≢false (sym (held k ss p (omega arith) e) ∙ free) in
-      ⊎_elim
-      (λ (e : i ≡ p).
-      let f : get_or (keys ss) i 0 ≡ get_or (keys ss) p 0 = ap (λ j. get_or (keys ss) j 0) e in
-      omega arith)
-      (⊎_elim (λ (lt : i < p). absurd (omega arith)) (λ (lt : p < i). omega (arith, up p i lt m)))
-      (cases_order i p)) in
-      rw keys_inserted r
-
-keys-removed : {E : Type 0} (ss : List (Slot E)) (i : ℕ) → keys (remove ss i) ≡ remove (keys ss) i
-keys-removed {E} ss i = map-append _ (take i ss) (drop (suc i) ss) ∙ sym (cc (take-map (λ (t : Slot E). t.key) i ss, drop-map (λ (t : Slot E). t.key) (suc i) ss))
-
-pub rises_without : {E : Type 0} (ss : List (Slot E)) (i : ℕ) → i < length ss → Rising (keys ss) → Rising (keys (remove ss i))
-rises_without {E} ss i l up =
-    let n = length-map ss (λ (t : Slot E). t.key) in
-    rw keys-removed (rises_removed (keys ss) i (omega arith) up)
+pub with_slot_at : {E : Type 0} (s : Slot E) (ss : List (Slot E)) (at : ℕ) → FitsAt s.key ss at → with_slot s ss ≡ insert ss at s
+with_slot_at s [] zero fits = refl
+with_slot_at s [] (suc at) fits = absurd (omega (arith, fits.within))
+with_slot_at s (t ∷ ts) zero fits = cond-false _ _ _ (le-ltb t.key s.key (omega (arith, fits.after 0 (omega arith) (omega arith))))
+with_slot_at s (t ∷ ts) (suc at) fits =
+    let later : FitsAt s.key ts at = record {
+      within = omega (arith, fits.within);
+      before = λ j l. fits.before (suc j) (suc-le-suc l);
+      after = λ j le l. fits.after (suc j) (suc-le-suc le) (suc-le-suc l);
+    } in
+    cond-true _ _ _ (lt-ltb t.key s.key (fits.before 0 (omega arith))) ∙ ap (λ us. t ∷ us) (with_slot_at s ts at later)

@@ -12,10 +12,10 @@ use Rattle.queue.specs.declared.held.Unstored.{Unstored}
 use Rattle.queue.specs.declared.held.Unstored.TheVariants.{Duplicate, Full}
 
 abbrev pub items : {E : Type 0} → Queue E → List (Slot E)
-items q = take q.len q.row.all.now
+items q = take q.len q.slots.now
 
 abbrev pub room : {E : Type 0} → Queue E → ℕ
-room q = length q.row.all.now
+room q = length q.slots.now
 
 abbrev pub answer : {E : Type 0} → ℕ → ℕ → List (Slot E) → Result (Unit {0}) Unstored
 answer n k ss = cond (holds k ss) (Err Duplicate) (cond (length ss == n) (Err Full) (Ok tt))

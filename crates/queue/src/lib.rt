@@ -1,7 +1,6 @@
 #![tactic(auto)]
 
 mod held;
-mod row;
 mod slots;
 
 pub use held::{Queue, Unstored};

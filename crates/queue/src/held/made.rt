@@ -3,7 +3,6 @@ ghost use Rattle.std.specs.Prelude.{◌≡◌, [], length};
 ghost use Rattle.queue.specs.Items.{items, room};
 
 use super::Queue;
-use crate::row::Row;
 use crate::slots::Slot;
 
 impl<'a, E> Queue<'a, E> {
@@ -12,10 +11,7 @@ impl<'a, E> Queue<'a, E> {
         ensures empty { items result ≡ [] }
         ensures room { room result ≡ length slots.old }
     {
-        Queue {
-            row: Row { all: slots },
-            len: 0,
-        }
+        Queue { slots, len: 0 }
     }
 
     // How many elements are held.

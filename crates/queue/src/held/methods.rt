@@ -1,41 +1,34 @@
 // What a queue answers, and what is put in and taken out.
-ghost use Rattle.std.specs.Prelude.{◌≡◌, ◌<◌, ◌≤◌, false, [], length, get_or, MatchOption, slice_index, slice_index_or};
+ghost use Rattle.std.specs.Prelude.{◌≡◌, ◌<◌, ◌≤◌, [], length, MatchOption, MatchResult, slice_index_or};
 ghost use Rattle.std.specs.List.{slice_get};
-ghost use Rattle.queue.specs.Slots.{keys, place, holds, under, without};
+ghost use Rattle.queue.specs.Slots.{StandsAt, FitsAt, holds, under, without};
 ghost use Rattle.queue.specs.Items.{items, room, answer, after};
 
 use super::{Queue, Unstored};
-use crate::slots::{Keyed, Slot, place_of};
+use crate::slots::{Keyed, Slot};
 
 impl<'a, E> Queue<'a, E> {
-    // How many slots have a key below this one.
-    fn place(&self, key: u64) -> usize
-        ensures { result ≡ place key (items self.now) }
+    // The slots in use, by rising key.
+    pub fn items(&self) -> &[Slot<E>]
+        ensures { result.now ≡ items self.now }
     {
-        place_of(self.row.all, self.len, key)
+        &self.slots[..self.len]
     }
 
-    // The place of the slot with this key.
-    fn find(&self, key: u64) -> Option<usize>
-        ensures { MatchOption result (holds key (items self.now) ≡ false) (λ i. (i < length (items self.now)) × (slice_index (keys (items self.now)) i ≡ key)) }
+    // The place of the slot with this key, or the place where one would go.
+    fn search(&self, key: u64) -> Result<usize, usize>
+        ensures { MatchResult result
+            (StandsAt key (items self.now))
+            (FitsAt key (items self.now)) }
     {
-        let at = self.place(key);
-        let slots = &*self.row.all;
-        if at < self.len && slots[at].key == key {
-            Some(at)
-        } else {
-            None
-        }
+        self.items().binary_search_by_key(&key, |slot| slot.key)
     }
 
     // Whether a slot has this key.
     pub fn holds(&self, key: u64) -> bool
         ensures { result ≡ holds key (items self.now) }
     {
-        match self.find(key) {
-            Some(_) => true,
-            None => false,
-        }
+        self.search(key).is_ok()
     }
 
     // Takes every element out.
@@ -53,28 +46,15 @@ impl<'a, E: Copy> Queue<'a, E> {
         ensures answer { result ≡ slice_get (items self.now) at }
         ensures stands { MatchOption result (length (items self.now) ≤ at) (λ s. (at < length (items self.now)) × ((d : Slot E) → s ≡ slice_index_or (items self.now) at d)) }
     {
-        if at >= self.len {
-            return None;
-        }
-        let slots = &*self.row.all;
-        Some(slots[at])
-    }
-
-    // The element at a place that is in use.
-    fn element_at(&self, at: usize) -> E
-        requires { at < length (items self.now) }
-        ensures { (d : Slot E) → result ≡ (get_or (items self.now) at d).element }
-    {
-        let slots = &*self.row.all;
-        slots[at].element
+        self.items().get(at).copied()
     }
 
     // The element under this key.
     pub fn get(&self, key: u64) -> Option<E>
         ensures { result ≡ under key (items self.now) }
     {
-        let at = self.find(key)?;
-        Some(self.element_at(at))
+        let at = self.search(key).ok()?;
+        Some(self.items()[at].element)
     }
 
     // Takes the element under this key out.
@@ -83,11 +63,10 @@ impl<'a, E: Copy> Queue<'a, E> {
         ensures after { items self.new ≡ without key (items self.old) }
         ensures room { room self.new ≡ room self.old }
     {
-        let at = self.find(key)?;
-        let element = self.element_at(at);
-        let len = self.len;
-        self.row.close(len, at);
-        self.len = len - 1;
+        let at = self.search(key).ok()?;
+        let element = self.slots[at].element;
+        self.len -= 1;
+        self.slots[at..=self.len].rotate_left(1);
         Some(element)
     }
 }
@@ -100,16 +79,15 @@ impl<'a, E: Keyed + Copy> Queue<'a, E> {
         ensures room { room self.new ≡ room self.old }
     {
         let key = element.key();
-        if self.holds(key) {
+        let Err(at) = self.search(key) else {
             return Err(Unstored::Duplicate);
-        }
-        if self.len == self.row.all.len() {
+        };
+        if self.len == self.slots.len() {
             return Err(Unstored::Full);
         }
-        let at = self.place(key);
-        let len = self.len;
-        self.row.open(len, at, Slot { key, element });
-        self.len = len + 1;
+        self.slots[self.len] = Slot { key, element };
+        self.slots[at..=self.len].rotate_right(1);
+        self.len += 1;
         Ok(())
     }
 }

@@ -3,6 +3,7 @@ ghost use Rattle.sets.specs.Bits.{bit};
 ghost use Rattle.sets.specs.Serials.{serials, unlisted, with_serial};
 
 use super::{SerialSet, WORDS};
+use std::array::from_fn;
 
 impl SerialSet {
     // The set without serials.
@@ -13,7 +14,7 @@ impl SerialSet {
         SerialSet { words: [0; WORDS] }
     }
 
-    // Bit n of the mask for serial n.
+    // Bit n of the mask for serial n. (Not `From<u64>`: `SerialSet::from(n)` would read as the set of one serial.)
     pub fn from_mask(mask: u64) -> SerialSet
         ensures { (k : ℕ) → serials result k ≡ bit mask k }
     {
@@ -26,8 +27,8 @@ impl SerialSet {
     pub fn contains(self, n: u64) -> bool
         ensures { result ≡ serials self n }
     {
-        let at = (n / 64) as usize;
-        at < WORDS && self.words[at] >> (n % 64) & 1 == 1
+        let word = self.words.get((n / 64) as usize);
+        word.is_some_and(|w| w >> (n % 64) & 1 == 1)
     }
 
     // The set with one serial more; as it is where the serial is past those that a set holds.
@@ -47,21 +48,17 @@ impl SerialSet {
     pub fn union(self, other: SerialSet) -> SerialSet
         ensures { (k : ℕ) → serials result k ≡ (serials self k || serials other k) }
     {
-        let mut words = self.words;
-        for i in 0..WORDS {
-            words[i] |= other.words[i];
+        SerialSet {
+            words: from_fn(|i| self.words[i] | other.words[i]),
         }
-        SerialSet { words }
     }
 
     // The serials of this set that the other does not have.
     pub fn without(self, other: SerialSet) -> SerialSet
         ensures { (k : ℕ) → serials result k ≡ (serials self k && not (serials other k)) }
     {
-        let mut words = self.words;
-        for i in 0..WORDS {
-            words[i] ^= words[i] & other.words[i];
+        SerialSet {
+            words: from_fn(|i| self.words[i] & !other.words[i]),
         }
-        SerialSet { words }
     }
 }

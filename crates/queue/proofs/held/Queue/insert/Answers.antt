@@ -1,49 +1,59 @@
-use Rattle.std.proofs.Common.{◌≡◌, ℕ, ◌+◌, false, eqb, List, length, take, sym, ap, ◌∙◌, subst, arith}
-use Rattle.std.specs.List.{insert}
-use Rattle.std.proofs.lemmas.Bool.{cond-false, ne_eqb}
-use Rattle.queue.specs.Slots.{keys, Rising, holds, place, with_slot}
+use Rattle.std.proofs.Common.{◌≡◌, ℕ, ◌+◌, ◌-◌, false, length, length-set, Ok, sym, ap, ◌∙◌, arith}
+use Rattle.std.proofs.lemmas.Bool.{cond-true, cond-false, eq-eqb, ne_eqb}
+use Rattle.std.proofs.lemmas.List.{take-set, length-take-le}
+use Rattle.std.proofs.lemmas.List.Edits.{length-insert}
+use Rattle.queue.specs.Items.{items, room}
+use Rattle.queue.specs.Slots.{FitsAt, holds, with_slot}
 use Rattle.queue.specs.declared.slots.Slot.{Slot}
-use Rattle.queue.proofs.Front.{front_length}
-use Rattle.queue.proofs.Placed.{place_within, with_slot_at, rises_with}
+use Rattle.queue.proofs.Placed.{told, free, with_slot_at, rises_with}
+use Rattle.queue.proofs.Turns.{fits_from_front, turned_in}
 use Rattle.queue.proofs.held.Queue.insert.Goals as goal
 
-pub open-requires : goal.open-requires
-open-requires g c =
+pub returns-in_default-clause-answer : goal.returns-in_default-clause-answer
+returns-in_default-clause-answer g c =
+    let ss = items c.args.self.now in
+    sym (cond-true _ _ _ (ap (λ j. holds j ss) (sym c.key-key.ensures) ∙ sym (told c.key-key.result ss c.args.self.now.rising (Ok c.in_default.field-0) c.in_default.ensures)))
+
+pub returns-in_default-clause-after : goal.returns-in_default-clause-after
+returns-in_default-clause-after g c =
+    let ss = items c.args.self.now in
+    sym (cond-true _ _ _ (ap (λ j. holds j ss) (sym c.key-key.ensures) ∙ sym (told c.key-key.result ss c.args.self.now.rising (Ok c.in_default.field-0) c.in_default.ensures)))
+
+pub returns-then-self-clause-answer : goal.returns-then-self-clause-answer
+returns-then-self-clause-answer g c =
     let q = c.args.self.now in
-    let ss = take q.len q.row.all.now in
-    let n = front_length q.row.all.now q.len q.fits in
-    let w = place_within c.key-key.result ss in
-    record { within = omega arith; room = omega arith }
+    let n = length-take-le q.len q.slots.now q.fits in
+    let absent : holds (g.E.Keyed.number c.args.element) (items q) ≡ false = ap (λ j. holds j (items q)) (sym c.key-key.ensures) ∙ (free c.key-key.result (items q) c.in-Err.at c.in-Err.ensures).holds in
+    sym (cond-false _ _ _ absent ∙ cond-true _ _ _ (eq-eqb (length (items q)) (room q) (omega arith)))
 
 pub invariant_of-self : goal.invariant_of-self
 invariant_of-self g c =
     let q = c.args.self.now in
-    let ss = take q.len q.row.all.now in
-    let s : Slot g.row.E.Denot = record { key = c.key-key.result; element = c.args.element } in
-    let R : List (Slot g.row.E.Denot) → Type 0 = λ ts. Rising (keys ts) in
-    let put : take (q.len + 1) c.open.new.self.all.now ≡ insert ss c.place-at.result s = c.open.ensures.front in
-    let at : c.place-at.result ≡ place s.key ss = c.place-at.ensures in
-    let front : take (q.len + 1) c.open.new.self.all.now ≡ insert ss (place s.key ss) s = put ∙ ap (λ i. insert ss i s) at in
-    let free : false ≡ holds s.key ss = c.if-holds.ensures in
-    record { fits = omega (arith, c.open.ensures.room); rising = subst R (sym front) (rises_with s ss q.rising (sym free)) }
+    record { fits = rw length-set q.fits; rising = rw take-set q.rising }
 
-pub returns : goal.returns
-returns g c =
+pub invariant_of-self-2 : goal.invariant_of-self-2
+invariant_of-self-2 g c =
     let q = c.args.self.now in
-    let ss = take q.len q.row.all.now in
-    let n = front_length q.row.all.now q.len q.fits in
-    let k : ℕ = g.E.Keyed.number c.args.element in
-    let as_slot : ℕ → Slot g.row.E.Denot = λ j. record { key = j; element = c.args.element } in
-    let key : c.key-key.result ≡ k = c.key-key.ensures in
-    let at : c.place-at.result ≡ place c.key-key.result ss = c.place-at.ensures in
-    let put : take (q.len + 1) c.open.new.self.all.now ≡ insert ss c.place-at.result (as_slot c.key-key.result) = c.open.ensures.front in
-    let not_held : false ≡ holds c.key-key.result ss = c.if-holds.ensures in
-    let free : holds k ss ≡ false = ap (λ j. holds j ss) (sym key) ∙ sym not_held in
-    let space : eqb (length ss) (length q.row.all.now) ≡ false = ne_eqb _ _ (λ f. omega arith) in
-    let stored : take (q.len + 1) c.open.new.self.all.now ≡ with_slot (as_slot k) ss =
-    put ∙ ap (λ i. insert ss i (as_slot c.key-key.result)) at ∙ ap (λ j. insert ss (place j ss) (as_slot j)) key ∙ sym (with_slot_at (as_slot k) ss) in
-    record {
-      answer = sym (cond-false _ _ _ free ∙ cond-false _ _ _ space);
-      after = stored ∙ sym (cond-false _ _ _ free ∙ cond-false _ _ _ space);
-      room = c.open.ensures.room;
-    }
+    let fits : FitsAt c.key-key.result (items q) c.in-Err.at = c.in-Err.ensures in
+    let n = length-take-le q.len q.slots.now q.fits in
+    let s : Slot g.row.E.Denot = record { key = c.key-key.result; element = c.args.element } in
+    let put = turned_in q.slots.now q.len c.in-Err.at (q.len + 1 - c.in-Err.at) s c.rotate_right.new.self (omega (arith, fits.within)) (omega arith) (omega arith) c.rotate_right.ensures.after in
+    record { fits = fits_from_front _ _ (q.len + 1) put (omega (arith, length-insert (items q) c.in-Err.at s fits.within)); rising = rw put (rises_with s (items q) c.in-Err.at q.rising fits) }
+
+pub returns-clause-answer : goal.returns-clause-answer
+returns-clause-answer g c =
+    let q = c.args.self.now in
+    let n = length-take-le q.len q.slots.now q.fits in
+    let absent : holds (g.E.Keyed.number c.args.element) (items q) ≡ false = ap (λ j. holds j (items q)) (sym c.key-key.ensures) ∙ (free c.key-key.result (items q) c.in-Err.at c.in-Err.ensures).holds in
+    sym (cond-false _ _ _ absent ∙ cond-false _ _ _ (ne_eqb (length (items q)) (room q) (λ f. omega arith)))
+
+pub returns-clause-after : goal.returns-clause-after
+returns-clause-after g c =
+    let q = c.args.self.now in
+    let fits : FitsAt c.key-key.result (items q) c.in-Err.at = c.in-Err.ensures in
+    let n = length-take-le q.len q.slots.now q.fits in
+    let s : ℕ → Slot g.row.E.Denot = λ k. record { key = k; element = c.args.element } in
+    let put = turned_in q.slots.now q.len c.in-Err.at (q.len + 1 - c.in-Err.at) (s c.key-key.result) c.rotate_right.new.self (omega (arith, fits.within)) (omega arith) (omega arith) c.rotate_right.ensures.after in
+    let absent : holds (g.E.Keyed.number c.args.element) (items q) ≡ false = ap (λ j. holds j (items q)) (sym c.key-key.ensures) ∙ (free c.key-key.result (items q) c.in-Err.at fits).holds in
+    put ∙ sym (with_slot_at (s c.key-key.result) (items q) c.in-Err.at fits) ∙ ap (λ k. with_slot (s k) (items q)) c.key-key.ensures
+    ∙ sym (cond-false _ _ _ absent ∙ cond-false _ _ _ (ne_eqb (length (items q)) (room q) (λ f. omega arith)))

@@ -1,41 +1,45 @@
-use Rattle.std.proofs.Common.{◌≡◌, ◌-◌, List, length, get_or, take, Some, sym, refl, ◌∙◌, subst, arith}
-use Rattle.std.specs.List.{remove}
-use Rattle.queue.specs.Slots.{keys, Rising, under, without}
-use Rattle.queue.specs.declared.slots.Slot.{Slot}
-use Rattle.queue.proofs.Front.{front_length}
-use Rattle.queue.proofs.Placed.{under_none, under_at, without_none, without_at, rises_without}
+use Rattle.std.proofs.Common.{◌+◌, ◌-◌, sym, ◌∙◌, arith}
+use Rattle.queue.specs.Items.{items}
+use Rattle.queue.proofs.Placed.{stands, gap_fits, free, read_at, without_at, rises_front, rises_without}
+use Rattle.std.proofs.lemmas.List.{get_or-take, length-take-le}
+use Rattle.std.proofs.lemmas.List.Edits.{length-remove}
+use Rattle.queue.proofs.Turns.{fits_from_front, turned_out}
 use Rattle.queue.proofs.held.Queue.remove.Goals as goal
 
-pub returns-in_err-at : goal.returns-in_err-at
-returns-in_err-at g c =
-    let q = c.args.self.now in
-    let ss = take q.len q.row.all.now in
-    let free = c.in_err-at.ensures in
-    record {
-      answer = c.from_residual.ensures ∙ sym (under_none c.args.key ss free);
-      after = sym (without_none c.args.key ss free);
-      room = refl {a = length q.row.all.now};
-    }
+pub returns-in_err-at-clause-answer : goal.returns-in_err-at-clause-answer
+returns-in_err-at-clause-answer g c =
+    let gap = gap_fits c.args.key (items c.args.self.now) _ c.search.ensures c.in_err-at.ensures.value in
+    c.from_residual.ensures ∙ sym (free c.args.key (items c.args.self.now) gap.0 gap.1).under
+
+pub returns-in_err-at-clause-after : goal.returns-in_err-at-clause-after
+returns-in_err-at-clause-after g c =
+    let gap = gap_fits c.args.key (items c.args.self.now) _ c.search.ensures c.in_err-at.ensures.value in
+    sym (free c.args.key (items c.args.self.now) gap.0 gap.1).without
 
 pub invariant_of-self : goal.invariant_of-self
 invariant_of-self g c =
     let q = c.args.self.now in
-    let n = front_length q.row.all.now q.len q.fits in
-    let f = c.in_ok-at.ensures in
-    let ss = take q.len q.row.all.now in
-    let R : List (Slot g.row.E.Denot) → Type 0 = λ ts. Rising (keys ts) in
-    let left : take (q.len - 1) c.close.new.self.all.now ≡ remove ss c.in_ok-at.at = c.close.ensures.front in
-    record { fits = omega (arith, c.close.ensures.room); rising = subst R (sym left) (rises_without ss c.in_ok-at.at f.0 q.rising) }
+    record { fits = omega (arith, q.fits); rising = rises_front q.slots.now (q.len - 1) q.len (omega arith) q.rising }
 
-pub returns : goal.returns
-returns g c =
+pub invariant_of-self-2 : goal.invariant_of-self-2
+invariant_of-self-2 g c =
     let q = c.args.self.now in
-    let ss = take q.len q.row.all.now in
-    let at = c.in_ok-at.at in
-    let f = c.in_ok-at.ensures in
-    let d : Slot g.row.E.Denot = record { key = 0; element = c.element_at-element.result } in
-    let is : c.element_at-element.result ≡ (get_or ss at d).element = c.element_at-element.ensures d in
-    let found : under c.args.key ss ≡ Some (get_or ss at d).element = under_at c.args.key ss at d q.rising f.0 f.1 in
-    let left : take (q.len - 1) c.close.new.self.all.now ≡ remove ss at = c.close.ensures.front in
-    let gone : without c.args.key ss ≡ remove ss at = without_at c.args.key ss at q.rising f.0 f.1 in
-    record { answer = (cc); after = left ∙ sym gone; room = c.close.ensures.room }
+    let at = stands c.args.key (items q) _ c.search.ensures c.in_ok-at.ensures.value in
+    let n = length-take-le q.len q.slots.now q.fits in
+    let left = turned_out q.slots.now q.len c.in_ok-at.at (q.len - 1 + 1 - c.in_ok-at.at) c.rotate_left.new.self (omega (arith, at.0)) q.fits (omega (arith, at.0)) c.rotate_left.ensures.after in
+    record { fits = fits_from_front _ _ (q.len - 1) left (omega (arith, at.0, length-remove (items q) c.in_ok-at.at at.0)); rising = rw left (rises_without (items q) c.in_ok-at.at at.0 q.rising) }
+
+pub returns-clause-answer : goal.returns-clause-answer
+returns-clause-answer g c =
+    let q = c.args.self.now in
+    let at = stands c.args.key (items q) _ c.search.ensures c.in_ok-at.ensures.value in
+    let n = length-take-le q.len q.slots.now q.fits in
+    read_at c.args.key q.slots.now (items q) c.in_ok-at.at _ q.rising at (λ d. sym (get_or-take q.len q.slots.now c.in_ok-at.at d (omega (arith, at.0))))
+
+pub returns-clause-after : goal.returns-clause-after
+returns-clause-after g c =
+    let q = c.args.self.now in
+    let at = stands c.args.key (items q) _ c.search.ensures c.in_ok-at.ensures.value in
+    let n = length-take-le q.len q.slots.now q.fits in
+    turned_out q.slots.now q.len c.in_ok-at.at (q.len - 1 + 1 - c.in_ok-at.at) c.rotate_left.new.self (omega (arith, at.0)) q.fits (omega (arith, at.0)) c.rotate_left.ensures.after
+    ∙ sym (without_at c.args.key (items q) c.in_ok-at.at q.rising at)
