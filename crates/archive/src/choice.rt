@@ -1,34 +1,30 @@
 ghost use Rattle.std.specs.Prelude.{◌≡◌, ℕ, ◌<◌, ◌&&◌, length, Some, None, MatchResult};
 ghost use Rattle.sets.specs.Serials.{serials};
 ghost use Rattle.head.specs.Tables.{entries};
-ghost use Rattle.weave.specs.Tables.{lists};
+ghost use Rattle.weave.specs.Tables.{listed};
 ghost use Rattle.archive.specs.Requests.{is_bad, first_bad, request_refusal, request_set};
 
 use crate::request::Request;
 use head::table::Table;
 use lines::fault::{Cause, Fault};
-use sets::{SERIALS, SerialSet};
+use sets::{Lists, SERIALS, SerialSet};
 use weave::version::set_of;
 
 // Is the serial listed, and 0, above the number of deltas, or in both lists?
-fn is_bad(top: u8, includes: SerialSet, excludes: SerialSet, k: u64) -> bool
-    ensures { result ≡ is_bad top (lists includes excludes) k }
+fn is_bad(top: u8, call: Lists, k: u64) -> bool
+    ensures { result ≡ is_bad top (listed call) k }
 {
-    let ins = includes.contains(k);
-    let outs = excludes.contains(k);
+    let ins = call.includes.contains(k);
+    let outs = call.excludes.contains(k);
     (ins || outs) && (k == 0 || k > u64::from(top) || ins && outs)
 }
 
 // The smallest bad serial of two lists.
-fn first_bad(top: u8, includes: SerialSet, excludes: SerialSet) -> Option<u8>
-    ensures { result ≡ first_bad top (lists includes excludes) }
+fn first_bad(top: u8, call: Lists) -> Option<u8>
+    ensures { result ≡ first_bad top (listed call) }
 {
-    for k in 0..SERIALS {
-        if is_bad(top, includes, excludes, k) {
-            return Some(k as u8);
-        }
-    }
-    None
+    let k = (0..SERIALS).find(|k| is_bad(top, call, *k))?;
+    Some(k as u8)
 }
 
 // The set that a request asks for.
@@ -38,10 +34,12 @@ pub fn choose(table: &Table, request: Request) -> Result<SerialSet, Fault>
     let Some(version) = table.find(request.sid) else {
         return Err(Fault::plain(Cause::NoSuchVersion));
     };
-    let includes = SerialSet::from_mask(request.includes);
-    let excludes = SerialSet::from_mask(request.excludes);
-    if let Some(serial) = first_bad(table.len() as u8, includes, excludes) {
+    let call = Lists {
+        includes: SerialSet::from_mask(request.includes),
+        excludes: SerialSet::from_mask(request.excludes),
+    };
+    if let Some(serial) = first_bad(table.len() as u8, call) {
         return Err(Fault::of_serial(Cause::ListedSerial, serial));
     }
-    Ok(set_of(table, version, includes, excludes))
+    Ok(set_of(table, version, call))
 }
