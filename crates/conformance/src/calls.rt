@@ -8,7 +8,8 @@ use lines::text::Text;
 use whole::measure::total_bytes;
 use whole::stored::store_whole;
 
-// One call of a source; false where the line names no such call.
+// One call of a source; false where the line names no such call. Each call takes other words and answers another type,
+// so a table of functions would need one type for them all.
 pub(crate) fn call_source<S: LineSource>(
     rt: &HostRuntime,
     line: &str,
@@ -80,7 +81,7 @@ fn add_many<S: LineStore>(store: &mut S, times: usize, line: &[u8]) -> Result<()
     Ok(())
 }
 
-// Stores a text under so many layers as a whole.
+// Stores a text under so many layers as a whole. Each number of layers is a type of its own, so each has an arm.
 fn copy_text<S: LineStore>(bytes: &[u8], layers: usize, store: &mut S) -> Result<(), Fault> {
     let text = Text::new(bytes);
     match layers {

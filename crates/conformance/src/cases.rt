@@ -20,6 +20,7 @@ pub(crate) fn run_case(rt: &HostRuntime, line: &str, rest: &[String]) -> anyhow:
     }
 }
 
+// A text under so many layers. Each number of layers is a type of its own, so each has an arm here and in `pile_up`.
 fn run_text(rt: &HostRuntime, line: &str, rest: &[String]) -> anyhow::Result<()> {
     let bytes = bytes_from(rt.alloc(), line, 2)?;
     print_answer(rt, Text::check(bytes.as_slice()).map(|()| "text"))?;
@@ -43,6 +44,7 @@ fn ask<S: LineSource>(rt: &HostRuntime, rest: &[String], source: &S) -> anyhow::
     Ok(())
 }
 
+// The two kinds of block are one store whose layouts have no name outside its crate, so nothing here is generic in them.
 fn run_block(rt: &HostRuntime, line: &str, rest: &[String]) -> anyhow::Result<()> {
     let layers = number(line, 1)?;
     let lines = number(line, 2)?;
