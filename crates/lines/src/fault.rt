@@ -47,7 +47,8 @@ impl Cause {
     }
 }
 
-// What a refusal returns: its cause, and what that names; each of the others is 0.
+// What a refusal returns: its cause, and what that names; each of the others is 0. A refusal is four numbers wherever it is
+// passed on or printed, so none of them is an Option.
 #[derive(Clone, Copy, Debug, PartialEq, Eq)]
 pub struct Fault {
     pub cause: Cause,

@@ -20,6 +20,7 @@ pub trait LineSource {
     fn count(&self) -> usize
         ensures { result ≡ length (lines self.now) };
 
+    // A number and no enum or Option: somebody else's source may have any kind up to 255, and a refusal names it as one.
     fn health(&self) -> u8
         ensures { result ≡ health self.now };
 

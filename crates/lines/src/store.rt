@@ -27,7 +27,7 @@ pub trait LineStore: LineSource {
     fn limits(&self) -> (usize, usize)
         ensures { result ≡ limits self.now };
 
-    // The kind of the lowest store in the pile.
+    // The kind of the lowest store in the pile: a number, as a health is.
     fn bottom(&self) -> u8
         ensures { result ≡ bottom self.now };
 
