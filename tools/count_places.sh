@@ -1,0 +1,32 @@
+#!/bin/sh
+# Counts the places of docs/DESIGN-PASS.md in the src/ folders below the folder named, or below this one.
+cd "${1:-.}" || exit 1
+S=$(find crates/*/src -name '*.rt' ! -name tests.rt | sort)
+c() { printf '%-4s %4s  %s\n' "$1" "$2" "$3"; }
+c 1a $(grep -hE '^\s+(pub(\(crate\))? )?\w+: bool,' $S | wc -l) "fields that are flags"
+c 1b $(grep -hE 'let mut \w+ = (true|false);' $S | wc -l) "variables that are flags"
+c 1c $(grep -hE '(unwrap_or\(0\)|NONE_\w+)' $S | grep -v '^ *use ' | wc -l) "lines with a number for none"
+c 1d $(grep -hE '^// .*\b(0 where|0 for none|false where|is 0|none where)\b|each of the others is 0|health: 0' $S | wc -l) "comments that say which number or flag stands for none"
+c 1e $(grep -hE '\) -> (anyhow::)?Result<(bool|Result)|^    \) -> bool( \{)?$|-> anyhow::Result<bool>' $S | wc -l) "doing functions that answer a flag, and nested results"
+c 1f $(grep -hE 'fn \w*(kind|health|bottom)\w*\(.*-> u8|const \w*KIND\w*: u8' $S | wc -l) "numbers of kinds"
+c 2a $(grep -hE '^(pub(\(crate\))? )?fn (take_counts|take_comment|take_mark|take_delta|are_digits|is_user|is_comment|sum_draft|sum_after|glance|fetch|read_number|read_serial_at|read_part|shown|word|number|print_refusal|print_made|print_val|print_done|print_number|walk|write|stop_of|end_of|open_at|close_at)\b|^    (pub(\(crate\))? )?fn (union|without|open|close|read_line|write_line|change_line)\(' $S | wc -l) "functions that have a twin, by name"
+c 2b $(grep -hE '\bChecksum::new\(Checksum::new' $S | wc -l) "arms that differ in how many layers there are"
+c 3a $(grep -hE '^ +(.\w+: )?while ' $S | wc -l) "while loops"
+c 3b $(grep -hE "^ +(.\w+: )?for \w+ in [^{]*\.\." $S | wc -l) "for loops over numbers"
+c 3c $(grep -hE '^ +for \(?\w+(, \w+)?\)? in ' $S | grep -v '\.\.' | wc -l) "other for loops"
+c 4a $(grep -hE '\b\w+ as (u64|u32|usize)\b' $S | wc -l) "lines with a widening cast"
+c 4b $(grep -hE '\bas (u8|u16)\b' $S | wc -l) "lines with a narrowing cast"
+c 4c $(grep -hE 'a\.\w+ == b\.\w+|a\.release' $S | wc -l) "equality field by field"
+c 4d $(grep -hE 'fn print_\w+|fn shown|fn sentence' $S | wc -l) "functions that print or make text"
+c 4e $(grep -hE "b'[a-z0-9]' <= \w+|\w+ <= b'[a-z0-9]'|<= 126|>= 33|- b'0'|48 \+" $S | wc -l) "lines that know the bytes of digits and letters"
+c 5a $(grep -hE 'requires.*(place ≤ 4001|1 ≤ place)' $S | wc -l) "clauses on a place"
+c 5b $(grep -hE 'requires.*(limit ≤ 4000|count ≤ limit|size limit 0 ≤|4 \* row)' $S | wc -l) "clauses on a sheet's numbers"
+c 5c $(grep -hE 'requires.*at ≤ length s\.now' $S | wc -l) "clauses on a place in a word"
+c 5d $(grep -hE 'requires.*(Bounded|< room marks)' $S | wc -l) "clauses on the open marks"
+c 5e $(grep -hE '(includes|ins)(: SerialSet)?, (excludes|outs)' $S | wc -l) "lines where includes and excludes travel together"
+c 5f $(grep -hE 'ensures (list|health|limits|bottom) \{' $S | wc -l) "clauses that say of a storing call what stays"
+c 6a $(grep -hE 'let mut \w+ = \[0(u8)?; LONGEST\]' $S | wc -l) "buffers with a length beside them"
+c 6b $(grep -hE '^\s+(len|count): usize,' $S | wc -l) "fields that count the used part of another field"
+c 7a $(grep -hE 'match (layers|word\(|number\(line)' $S | wc -l) "switches on which step to run"
+c 8a $(cat $(find crates/*/proofs -name '*.antt') | wc -l) "lines of proofs"
+c 8b $(find crates/*/proofs -name Answers.antt | xargs grep -hE '^pub .* : goal\.' | wc -l) "answers"
