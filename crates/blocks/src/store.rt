@@ -136,15 +136,15 @@ impl<'a, L: Layout> LineSource for BlockStore<'a, L> {
 impl<'a, L: Layout> LineStore for BlockStore<'a, L> {
     ghost store = { λ s. block_store L.Layout.own s };
 
-    ghost same_lines = { λ _. refl };
-
-    ghost same_health = { λ _. refl };
-
     ghost lawful_draft = { λ s. draft_lawful L.Layout.lines L.Layout.size L.Layout.counted L.Layout.lawful s.block.now s.at };
 
     ghost lawful_limits = { λ s. limits_lawful L.Layout.size s.block.now s.at };
 
     ghost lawful_bottom = { λ _. L.Layout.lawful_kind };
+
+    ghost same_lines = { λ _. refl };
+
+    ghost same_health = { λ _. refl };
 
     fn limits(&self) -> (usize, usize) {
         self.listed()

@@ -14,6 +14,12 @@ pub const MOST_BYTES: usize = 24000;
 pub trait LineStore: LineSource {
     ghost store: { Self → Store };
 
+    ghost lawful_draft: { (s : Self) → LawfulDraft (store s).draft };
+
+    ghost lawful_limits: { (s : Self) → LawfulLimits (store s).limits };
+
+    ghost lawful_bottom: { (s : Self) → LawfulKind (store s).bottom };
+
     // The limit of lines and that of bytes.
     fn limits(&self) -> (usize, usize)
         ensures { result ≡ (store self.now).limits };
@@ -47,13 +53,8 @@ pub trait LineStore: LineSource {
         ensures answer { result ≡ verdict (keep_refusal (store self.old).draft) tt }
         ensures store { store self.new ≡ kept (store self.old) };
 
+    // The list and the health are those of the source.
     ghost same_lines: { (s : Self) → Self.LineSource.lines s ≡ (store s).lines };
 
     ghost same_health: { (s : Self) → Self.LineSource.health s ≡ (store s).health };
-
-    ghost lawful_draft: { (s : Self) → LawfulDraft (store s).draft };
-
-    ghost lawful_limits: { (s : Self) → LawfulLimits (store s).limits };
-
-    ghost lawful_bottom: { (s : Self) → LawfulKind (store s).bottom };
 }
