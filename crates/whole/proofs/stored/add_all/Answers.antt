@@ -1,7 +1,7 @@
 use Rattle.std.proofs.Common.{◌≡◌, ℕ, List, [], ◌∷◌, ◌++◌, true, Some, Ok, Err, Option, sym, refl, ap, ◌∙◌, append_assoc, append-nil, arith}
 use Rattle.lines.specs.Faults.{accepted, verdict, left}
 use Rattle.lines.specs.Lines.{Line, Lawful, draft_lines, add_refusal}
-use Rattle.lines.specs.Stores.{meaning, drafting}
+use Rattle.lines.specs.Stores.{Store, drafting, added}
 use Rattle.whole.specs.Whole.{fits}
 use Rattle.whole.proofs.WholeLaws.{next_taken}
 use Rattle.whole.proofs.stored.add_all.Goals as goal
@@ -12,13 +12,12 @@ accepts D lim lim' ls rest it l begun same is split ok room = (λ t. add_refusal
 
 pub loop-line-init : goal.loop-line-init
 loop-line-init g c =
-    let D : Option (List Line) = g.D.LineStore.draft c.args.store.now in
-    let begun : D ≡ Some [] = c.requires.begun in
-    let some : D ≡ Some (draft_lines D) = begun ∙ ap (λ d. Some (draft_lines d)) (sym begun) in
-    let start = meaning g.D.LineSource g.D.LineStore c.args.store.now in
+    let s : Store = g.D.LineStore.store c.args.store.now in
+    let begun : s.draft ≡ Some [] = c.requires.begun in
+    let some : s.draft ≡ Some (draft_lines s.draft) = begun ∙ ap (λ d. Some (draft_lines d)) (sym begun) in
     record {
       split = ap (λ d. draft_lines d ++ c.into_iter-line-iterator.result) begun ∙ c.into_iter-line-iterator.ensures.into_iter_gives ∙ c.of-line-items.ensures;
-      store = λ t. record { lines = start.lines; health = start.health; draft = some t; limits = start.limits; bottom = start.bottom };
+      store = λ t. record { lines = s.lines; health = s.health; draft = some t; limits = s.limits; bottom = s.bottom };
     }
 
 pub returns-in_err-add : goal.returns-in_err-add
@@ -32,26 +31,21 @@ returns-in_err-add g c =
 pub loop-line-preserved : goal.loop-line-preserved
 loop-line-preserved g c =
     let inv = c.loop-line.invariant in
-    let e = c.add.ensures in
-    let D : Option (List Line) = g.D.LineStore.draft c.loop-line.store in
-    let q = accepts D _ _ _ _ _ c.in-Some.line (ap (λ s. s.draft) inv.store) (ap (λ s. s.limits) inv.store) c.in-Some.ensures.steps inv.split (g.S.LineSource.lawful c.args.source.now) c.requires.room in
-    let drafted : g.D.LineStore.draft c.add.new.self ≡ Some (draft_lines D ++ (c.in-Some.line ∷ [])) =
-    e.draft ∙ ap (λ l. left (add_refusal D (g.D.LineStore.limits c.loop-line.store) l) (Some (draft_lines D ++ (l ∷ []))) D) c.as_slice.ensures ∙ ap (λ r. left r (Some (draft_lines D ++ (c.in-Some.line ∷ []))) D) q in
-    let some : g.D.LineStore.draft c.add.new.self ≡ Some (draft_lines (g.D.LineStore.draft c.add.new.self)) = drafted ∙ ap (λ d. Some (draft_lines d)) (sym drafted) in
+    let s : Store = g.D.LineStore.store c.loop-line.store in
+    let d : List Line = draft_lines s.draft in
+    let l = c.in-Some.line in
+    let start : Store = g.D.LineStore.store c.args.store.now in
+    let q = accepts s.draft _ _ _ _ _ l (ap (λ s. s.draft) inv.store) (ap (λ s. s.limits) inv.store) c.in-Some.ensures.steps inv.split (g.S.LineSource.lawful c.args.source.now) c.requires.room in
+    let more : g.D.LineStore.store c.add.new.self ≡ drafting (d ++ (l ∷ [])) s = c.add.ensures.store ∙ ap (λ k. added k s) c.as_slice.ensures ∙ ap (λ r. left r (drafting (d ++ (l ∷ [])) s) s) q in
+    let lines : draft_lines (g.D.LineStore.store c.add.new.self).draft ≡ d ++ (l ∷ []) = ap (λ s. draft_lines s.draft) more in
     record {
-      split = ap (λ d. draft_lines d ++ c.next.new.self) drafted ∙ append_assoc (draft_lines D) (c.in-Some.line ∷ []) c.next.new.self ∙ ap (λ r. draft_lines D ++ r) (sym c.in-Some.ensures.steps) ∙ inv.split;
-      store = λ t. record {
-        lines = (e.list ∙ ap (λ s. s.lines) inv.store) t;
-        health = (e.health ∙ ap (λ s. s.health) inv.store) t;
-        draft = some t;
-        limits = (e.limits ∙ ap (λ s. s.limits) inv.store) t;
-        bottom = (e.bottom ∙ ap (λ s. s.bottom) inv.store) t;
-      };
+      split = ap (λ x. x ++ c.next.new.self) lines ∙ append_assoc d (l ∷ []) c.next.new.self ∙ ap (λ r. d ++ r) (sym c.in-Some.ensures.steps) ∙ inv.split;
+      store = more ∙ ap (drafting (d ++ (l ∷ []))) inv.store ∙ ap (λ x. drafting x start) (sym lines);
     }
 
 pub returns : goal.returns
 returns g c =
     let inv = c.loop-line.invariant in
-    let s = c.in-None.ensures.steps in
-    let all : draft_lines (g.D.LineStore.draft c.loop-line.store) ≡ g.S.LineSource.lines c.args.source.now = sym (append-nil _) ∙ ap (λ r. draft_lines (g.D.LineStore.draft c.loop-line.store) ++ r) (sym s.0) ∙ inv.split in
-    record { answer = refl; store = inv.store ∙ ap (λ ls. drafting ls (meaning g.D.LineSource g.D.LineStore c.args.store.now)) all }
+    let d : List Line = draft_lines (g.D.LineStore.store c.loop-line.store).draft in
+    let all : d ≡ g.S.LineSource.lines c.args.source.now = sym (append-nil _) ∙ ap (λ r. d ++ r) (sym c.in-None.ensures.steps.0) ∙ inv.split in
+    record { answer = refl; store = inv.store ∙ ap (λ ls. drafting ls (g.D.LineStore.store c.args.store.now)) all }
