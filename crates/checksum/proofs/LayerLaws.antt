@@ -1,9 +1,10 @@
 -- Laws of the lines and the draft above those below. Assumes nothing.
 use Rattle.std.proofs.Common.{◌≡◌, ℕ, suc, ◌+◌, ◌-◌, ◌≤◌, Bool, true, false, cond, not, eqb, leb, List, [], ◌∷◌, ◌++◌, length, set, is_some, Some, None, Ok, Err, ◌||◌, Option, sym, refl, ap, ◌∙◌, ⊎_elim, arith}
 use Rattle.std.proofs.lemmas.Bool.{eqb-false, or_parts, cases_Bool, cases_lt, eqb-true, eq-eqb, cond-true, cond-false, both_ways}
-use Rattle.lines.specs.declared.fault.Cause.TheVariants.{NoSuchLine, NotALine, OtherLength}
+use Rattle.std.proofs.lemmas.Grind.{common_steps}
+use Rattle.lines.specs.declared.fault.Cause.TheVariants.{NoSuchLine, NotALine, NoRoom, OtherLength}
 use Rattle.lines.specs.Faults.{Refusal, accepted, plain, when, verdict, left}
-use Rattle.lines.specs.Lines.{Line, is_line, line_of, lacks, draft_lines, put_refusal, read_refusal, look_refusal, add_refusal, patch_refusal, keep_refusal}
+use Rattle.lines.specs.Lines.{Line, is_line, line_of, lacks, draft_lines, room, put_refusal, read_refusal, look_refusal, add_refusal, patch_refusal, keep_refusal}
 use Rattle.lines.specs.Stores.{Store, drafting, rewritten, added, patched, kept}
 use Rattle.lines.proofs.LineLaws.{lacks_past, lacks_not, patch_is}
 use Rattle.checksum.specs.Layer.{rest, layer_health, above, limits_above, number_below, over, added_below, patched_below, kept_below}
@@ -64,6 +65,10 @@ over_rewritten (Some f) d s = refl
 pub over_kept : (s : Store) → over (kept_below s) ≡ kept (over s)
 over_kept s = over_rewritten (keep_refusal (above s.draft)) (draft_lines (above s.draft)) s
 
+-- a line has room behind a first line of 7 bytes where it has room above
+room_above : (lim : ℕ × ℕ) (f : Line) (d : List Line) (l : Line) → length f ≡ 7 → room lim (f ∷ d) l ≡ room (limits_above lim) d l
+room_above lim f d l size = grind (arith, common_steps)
+
 -- a number that line n has below
 pub number_is : (n k : ℕ) → Ok k ≡ number_below n → (1 ≤ n) × (k ≡ n + 1)
 number_is n k is =
@@ -109,6 +114,12 @@ module _ (D : Option (List Line)) (open' : is_open D ≡ true) where
 module _ (s : Store) (open' : is_open s.draft ≡ true) where
   below : Opened s.draft
   below = opened s.draft open'
+
+  pub added_is : (l : Line) → added l s ≡ added_below l s
+  added_is l =
+      ap (λ q. left q (drafting (draft_lines s.draft ++ (l ∷ [])) s) s)
+      (ap (λ x. add_refusal x s.limits l) below.is ∙ ap (λ r. when (not (is_line l)) (plain NotALine) (when (not r) (plain NoRoom) accepted)) (room_above s.limits below.first below.others l below.size)
+      ∙ ap (λ x. add_refusal x (limits_above s.limits) l) (sym below.up))
 
   pub over_added : (l : Line) → over (added_below l s) ≡ added l (over s)
   over_added l =
