@@ -1,17 +1,20 @@
 -- Laws of a block with two sheets, for any meaning of a sheet and any size. Assumes nothing.
-use Rattle.std.proofs.Common.{◌≡◌, ℕ, ◌+◌, ◌-◌, ◌*◌, ◌≤◌, Bool, true, false, cond, ◌&&◌, List, [], length, take, drop, Some, None, sym, refl, ap, ◌∙◌, subst, ⊎_elim, arith}
+use Rattle.std.proofs.Common.{◌≡◌, ℕ, ◌+◌, ◌-◌, ◌*◌, ◌≤◌, Bool, true, false, cond, ◌&&◌, List, [], ◌∷◌, ◌++◌, length, take, drop, Some, None, sym, refl, ap, ◌∙◌, subst, ⊎_elim, arith}
 use borrow.Rule.Slice.PartMut.{put_mid}
-use Rattle.std.specs.Prelude.{option_map}
+use Rattle.std.specs.Prelude.{option_map, MatchResult, Result, slice_set}
 use Rattle.std.proofs.lemmas.Slice.{take-put_mid_below, between-put_mid, drop-put_mid}
 use Rattle.std.proofs.lemmas.List.{length-take, length-drop, nil_from_length}
 use Rattle.std.proofs.lemmas.Bool.{cond-true, cond-false, and_parts, and_from, cases_Bool, le-leb}
-use Rattle.lines.specs.Lines.{Line, draft_lines}
+use Rattle.lines.specs.declared.fault.Fault.{Fault}
+use Rattle.lines.specs.Faults.{Refusal, accepted, verdict, left}
+use Rattle.lines.specs.Lines.{Line, draft_lines, add_refusal, patch_refusal}
+use Rattle.lines.specs.Stores.{Store, drafting, added, patched}
 use Rattle.blocks.specs.declared.marks.Half.{Half}
 use Rattle.blocks.specs.declared.marks.Half.TheVariants.{First, Second}
 use Rattle.blocks.specs.declared.marks.Marks.{Marks}
 use Rattle.blocks.specs.declared.tally.Tally.{Tally}
 use Rattle.blocks.specs.Numbers.{other, base, within, fresh}
-use Rattle.blocks.specs.Blocks.{Meaning, Size, fits, size_of, stands, sheet_of, list_of, draft_of, limits_of, health_of, Begins, Laid, LaidOut, Tallied}
+use Rattle.blocks.specs.Blocks.{Meaning, Size, fits, size_of, stands, sheet_of, list_of, draft_of, limits_of, health_of, store_of, Begins, Laid, LaidOut, Tallied}
 use Rattle.blocks.specs.BlockLaws.{standing}
 use Rattle.blocks.proofs.PartLaws.{length-mid}
 
@@ -82,14 +85,30 @@ moved : (laid : Laid) (L : ℕ) (s s' : List ℕ) (ls ls' : List Line) → s ≡
 moved laid L s s' ls ls' e f h = subst (λ z. laid L z ls') e (subst (λ z. laid L s z) f h)
 
 -- the numbers with a draft of n lines
-abbrev pub drafting : Marks → ℕ → Marks
-drafting m n = record { lines = m.lines; bytes = m.bytes; list = m.list; count = m.count; draft = Some n }
+abbrev pub with_draft : Marks → ℕ → Marks
+with_draft m n = record { lines = m.lines; bytes = m.bytes; list = m.list; count = m.count; draft = Some n }
 
 -- another draft, of n lines
-stands_drafting : (size : Size) (b : List ℕ) (m : Marks) (n : ℕ) → stands size b m ≡ true → n ≤ m.lines → stands size b (drafting m n) ≡ true
-stands_drafting size b m n r few =
+stands_with : (size : Size) (b : List ℕ) (m : Marks) (n : ℕ) → stands size b m ≡ true → n ≤ m.lines → stands size b (with_draft m n) ≡ true
+stands_with size b m n r few =
     let fit = (and_parts (fits size m.lines m.bytes (length b)) (within m) r).0 in
-    and_from (fits size m.lines m.bytes (length b)) (within (drafting m n)) fit (and_from _ _ (le-leb _ _ (standing size b m r).counted) (le-leb _ _ few))
+    and_from (fits size m.lines m.bytes (length b)) (within (with_draft m n)) fit (and_from _ _ (le-leb _ _ (standing size b m r).counted) (le-leb _ _ few))
+
+-- the store with that draft: nothing else changed where its list is the same
+store_with : (lines : Meaning) (size : Size) (k : ℕ) (b b' : List ℕ) (m : Marks) (n : ℕ) (ls : List Line) → stands size b m ≡ true → stands size b' (with_draft m n) ≡ true → list_of lines size b' (with_draft m n) ≡ list_of lines size b m → draft_of lines size b' (with_draft m n) ≡ Some ls → store_of lines size k b' (with_draft m n) ≡ drafting ls (store_of lines size k b m)
+store_with lines size k b b' m n ls r r' list draft =
+    let limits : limits_of size b' (with_draft m n) ≡ limits_of size b m = cond-true _ _ _ r' ∙ sym (cond-true _ _ _ r) in
+    λ i. record { lines = list i; health = 0; draft = draft i; limits = limits i; bottom = k }
+
+-- a draft that a call changed, unless it was refused
+drafting_left : (q : Refusal) (new old : List Line) (s : Store) → s.draft ≡ Some old → drafting (left q new old) s ≡ left q (drafting new s) s
+drafting_left None new old s is = refl
+drafting_left (Some f) new old s is =
+    λ i. record { lines = s.lines; health = s.health; draft = sym is i; limits = s.limits; bottom = s.bottom }
+
+taken_left : (q : Refusal) (f : List ℕ → List Line) (y x : List ℕ) (new : List Line) → MatchResult (verdict {A = Unit {0}} q tt) (λ _. f y ≡ new) (λ (_ : Fault). y ≡ x) → f y ≡ left q new (f x)
+taken_left None f y x new h = h
+taken_left (Some e) f y x new h = ap f h
 
 -- a sheet as a call lends it: it goes from a to z, and t has the limits of the store, which stands
 pub record Lent (size : Size) (b : List ℕ) (m : Marks) (t : Tally) (g : Half) (a z : ℕ) : Type 0 where
@@ -130,9 +149,9 @@ module _ (lines : Meaning) {size : Size} {b : List ℕ} {m : Marks} {t : Tally} 
 
     -- it is changed to y, and the draft has n lines
     module _ (y : List ℕ) (ly : length y ≡ length (part b a z)) (n : ℕ) (few : n ≤ t.lines) where
-      stands_left : stands size (after b a z y) (drafting m n) ≡ true
+      stands_left : stands size (after b a z y) (with_draft m n) ≡ true
       stands_left =
-          stands_drafting size (after b a z y) m n (ap (λ j. fits size m.lines m.bytes j && within m) (same_length b (size_of size m) g a z w.from w.to two y ly) ∙ w.tallied.stood) (subst (λ L. n ≤ L) w.tallied.lines few)
+          stands_with size (after b a z y) m n (ap (λ j. fits size m.lines m.bytes j && within m) (same_length b (size_of size m) g a z w.from w.to two y ly) ∙ w.tallied.stood) (subst (λ L. n ≤ L) w.tallied.lines few)
 
       list_sheet : sheet_of (size_of size m) (after b a z y) m.list ≡ sheet_of (size_of size m) b m.list
       list_sheet = subst (λ x. sheet_of (size_of size m) (after b a z y) x ≡ sheet_of (size_of size m) b x) (ap other e ∙ other_twice m.list) (others b (size_of size m) g a z w.from w.to two y ly)
@@ -140,13 +159,24 @@ module _ (lines : Meaning) {size : Size} {b : List ℕ} {m : Marks} {t : Tally} 
       draft-sheet : sheet_of (size_of size m) (after b a z y) (other m.list) ≡ y
       draft-sheet = subst (λ x. sheet_of (size_of size m) (after b a z y) x ≡ y) e (own b (size_of size m) g a z w.from w.to two y ly)
 
-      pub list_left : list_of lines size (after b a z y) (drafting m n) ≡ list_of lines size b m
-      list_left = list_at lines size (after b a z y) (drafting m n) stands_left ∙ ap (λ s. lines m.lines s m.count) list_sheet ∙ sym (list_at lines size b m w.tallied.stood)
+      pub list_left : list_of lines size (after b a z y) (with_draft m n) ≡ list_of lines size b m
+      list_left = list_at lines size (after b a z y) (with_draft m n) stands_left ∙ ap (λ s. lines m.lines s m.count) list_sheet ∙ sym (list_at lines size b m w.tallied.stood)
 
-      pub draft_left : draft_of lines size (after b a z y) (drafting m n) ≡ Some (lines t.lines y n)
-      draft_left = draft_at lines size (after b a z y) (drafting m n) stands_left n refl ∙ ap (λ s. Some (lines m.lines s n)) draft-sheet ∙ ap Some (lent_lines y n)
+      pub draft_left : draft_of lines size (after b a z y) (with_draft m n) ≡ Some (lines t.lines y n)
+      draft_left = draft_at lines size (after b a z y) (with_draft m n) stands_left n refl ∙ ap (λ s. Some (lines m.lines s n)) draft-sheet ∙ ap Some (lent_lines y n)
 
-      pub laid_left : (laid : Laid) → (laid t.lines (part b a z) (lines t.lines (part b a z) t.count) → laid t.lines y (lines t.lines y n)) → LaidOut laid lines size b m → LaidOut laid lines size (after b a z y) (drafting m n)
+      store_left : (k : ℕ) → store_of lines size k (after b a z y) (with_draft m n) ≡ drafting (lines t.lines y n) (store_of lines size k b m)
+      store_left k = store_with lines size k b (after b a z y) m n (lines t.lines y n) w.tallied.stood stands_left list_left draft_left
+
+      -- so it has one line more
+      pub store_added : (k : ℕ) (l : Line) → add_refusal (Some (lines t.lines (part b a z) t.count)) (t.lines, t.bytes) l ≡ accepted → lines t.lines y n ≡ lines t.lines (part b a z) t.count ++ (l ∷ []) → store_of lines size k (after b a z y) (with_draft m n) ≡ added l (store_of lines size k b m)
+      store_added k l taken more =
+          let S : Store = store_of lines size k b m in
+          store_left k ∙ ap (λ ls. drafting ls S) more
+          ∙ sym (ap (λ q. left q (drafting (lines t.lines (part b a z) t.count ++ (l ∷ [])) S) S) taken)
+          ∙ sym (λ i. left (add_refusal (draft_lent i) (limits_lent i) l) (drafting (draft_lines (draft_lent i) ++ (l ∷ [])) S) S)
+
+      pub laid_left : (laid : Laid) → (laid t.lines (part b a z) (lines t.lines (part b a z) t.count) → laid t.lines y (lines t.lines y n)) → LaidOut laid lines size b m → LaidOut laid lines size (after b a z y) (with_draft m n)
       laid_left laid keeps o =
           let old : laid t.lines (part b a z) (lines t.lines (part b a z) t.count) = subst (λ L. laid L (part b a z) (lines t.lines (part b a z) t.count)) (sym w.tallied.lines) (moved laid m.lines _ _ _ _ (ap (sheet_of (size_of size m) b) (sym e) ∙ sym lent_sheet) (ap draft_lines draft_lent) o.draft) in
           record {
@@ -154,23 +184,41 @@ module _ (lines : Meaning) {size : Size} {b : List ℕ} {m : Marks} {t : Tally} 
             draft = moved laid m.lines _ _ _ _ (sym draft-sheet) (sym (ap draft_lines draft_left)) (subst (λ L. laid L y (lines t.lines y n)) w.tallied.lines (keeps old));
           }
 
-    -- the same with its count of lines
+    same_draft : with_draft m t.count ≡ m
+    same_draft = ap (λ d. record { lines = m.lines; bytes = m.bytes; list = m.list; count = m.count; draft = d }) (sym f)
+
+    -- it is changed to y, with as many lines: so line i is l, unless that was refused
+    pub store_patched : (y : List ℕ) → length y ≡ length (part b a z) → (k : ℕ) (i : ℕ) (l : Line) (answer : Result (Unit {0}) Fault) → answer ≡ verdict (patch_refusal (Some (lines t.lines (part b a z) t.count)) i l) tt → MatchResult answer (λ _. lines t.lines y t.count ≡ slice_set (lines t.lines (part b a z) t.count) (i - 1) l) (λ _. y ≡ part b a z) → store_of lines size k (after b a z y) m ≡ patched i l (store_of lines size k b m)
+    store_patched y ly k i l answer is taken =
+        let S : Store = store_of lines size k b m in
+        let was : List Line = lines t.lines (part b a z) t.count in
+        let q : Refusal = patch_refusal (Some was) i l in
+        let told : MatchResult (verdict q tt) (λ _. lines t.lines y t.count ≡ slice_set was (i - 1) l) (λ _. y ≡ part b a z) = subst (λ r. MatchResult r (λ _. lines t.lines y t.count ≡ slice_set was (i - 1) l) (λ _. y ≡ part b a z)) is taken in
+        ap (store_of lines size k (after b a z y)) (sym same_draft) ∙ store_left y ly t.count t.within k
+        ∙ ap (λ ls. drafting ls S) (taken_left q (λ s. lines t.lines s t.count) y (part b a z) (slice_set was (i - 1) l) told)
+        ∙ drafting_left q (slice_set was (i - 1) l) was S draft_lent
+        ∙ sym (ap (λ d. left (patch_refusal d i l) (drafting (slice_set (draft_lines d) (i - 1) l) S) S) draft_lent)
+
+    -- and the lines stay laid out
     pub laid_lent : (y : List ℕ) → length y ≡ length (part b a z) → (laid : Laid) → (laid t.lines (part b a z) (lines t.lines (part b a z) t.count) → laid t.lines y (lines t.lines y t.count)) → LaidOut laid lines size b m → LaidOut laid lines size (after b a z y) m
     laid_lent y ly laid keeps o =
-        let same : drafting m t.count ≡ m = ap (λ d. record { lines = m.lines; bytes = m.bytes; list = m.list; count = m.count; draft = d }) (sym f) in
-        subst (LaidOut laid lines size (after b a z y)) same (laid_left y ly t.count t.within laid keeps o)
+        subst (LaidOut laid lines size (after b a z y)) same_draft (laid_left y ly t.count t.within laid keeps o)
 
 module _ (lines : Meaning) (size : Size) (counted : (L : ℕ) (s : List ℕ) (n : ℕ) → length (lines L s n) ≡ n) (b : List ℕ) (m : Marks) (r : stands size b m ≡ true) where
-  stands_begun : stands size b (drafting m 0) ≡ true
-  stands_begun = stands_drafting size b m 0 r (omega arith)
+  stands_begun : stands size b (with_draft m 0) ≡ true
+  stands_begun = stands_with size b m 0 r (omega arith)
 
-  pub draft_begun : draft_of lines size b (drafting m 0) ≡ Some []
-  draft_begun = draft_at lines size b (drafting m 0) stands_begun 0 refl ∙ ap Some (nil_from_length _ (counted m.lines _ 0))
+  pub draft_begun : draft_of lines size b (with_draft m 0) ≡ Some []
+  draft_begun = draft_at lines size b (with_draft m 0) stands_begun 0 refl ∙ ap Some (nil_from_length _ (counted m.lines _ 0))
 
-  pub laid_begun : (laid : Laid) → ((L : ℕ) (s : List ℕ) → laid L s []) → LaidOut laid lines size b m → LaidOut laid lines size b (drafting m 0)
+  pub store_begun : (k : ℕ) → store_of lines size k b (with_draft m 0) ≡ drafting [] (store_of lines size k b m)
+  store_begun k =
+      store_with lines size k b b m 0 [] r stands_begun (list_at lines size b (with_draft m 0) stands_begun ∙ sym (list_at lines size b m r)) draft_begun
+
+  pub laid_begun : (laid : Laid) → ((L : ℕ) (s : List ℕ) → laid L s []) → LaidOut laid lines size b m → LaidOut laid lines size b (with_draft m 0)
   laid_begun laid none w =
       record {
-        list = subst (λ ls. laid m.lines (sheet_of (size_of size m) b m.list) ls) (list_at lines size b m r ∙ sym (list_at lines size b (drafting m 0) stands_begun)) w.list;
+        list = subst (λ ls. laid m.lines (sheet_of (size_of size m) b m.list) ls) (list_at lines size b m r ∙ sym (list_at lines size b (with_draft m 0) stands_begun)) w.list;
         draft = subst (λ d. laid m.lines (sheet_of (size_of size m) b (other m.list)) (draft_lines d)) (sym draft_begun) (none m.lines _);
       }
 

@@ -15,6 +15,7 @@
 -- Draftless          the store does not stand or has no draft, and the refusal f says so
 -- limits_of          the limits: those of the numbers, or 0 and 0 where the store does not stand
 -- health_of          the health: a block store is always whole
+-- store_of .. k b m   list, health, draft and limits as one line store, with the bottom kind k
 -- block_refusal ..   the refusal of the check before the making
 -- Laid               these lines lie at the front of a sheet, of its limit of lines, its bytes and the lines; each layout
 --                    has its own
@@ -25,6 +26,7 @@ use Rattle.lines.specs.declared.fault.Cause.TheVariants.{NoSuchLine, NoDraft, Bl
 use Rattle.lines.specs.declared.fault.Fault.{Fault}
 use Rattle.lines.specs.Faults.{Refusal, accepted, plain, when}
 use Rattle.lines.specs.Lines.{Line, draft_lines}
+use Rattle.lines.specs.Stores.{Store}
 use Rattle.blocks.specs.declared.marks.Half.{Half}
 use Rattle.blocks.specs.declared.marks.Marks.{Marks}
 use Rattle.blocks.specs.declared.tally.Tally.{Tally}
@@ -81,6 +83,10 @@ limits_of size b m = cond (stands size b m) (m.lines, m.bytes) (0, 0)
 
 abbrev pub health_of : Marks → ℕ
 health_of m = 0
+
+abbrev pub store_of : Meaning → Size → ℕ → List ℕ → Marks → Store
+store_of lines size k b m =
+    record { lines = list_of lines size b m; health = health_of m; draft = draft_of lines size b m; limits = limits_of size b m; bottom = k }
 
 abbrev pub block_refusal : Size → ℕ → ℕ → ℕ → Refusal
 block_refusal size L B k = when (not (fits size L B k)) (plain BlockForm) accepted

@@ -1,8 +1,9 @@
-ghost use Rattle.std.specs.Prelude.{◌≡◌, ◌-◌, [], ◌∷◌, ◌++◌, length, if◌then◌else◌, Some, None, MatchResult, slice_set};
-ghost use Rattle.lines.specs.Faults.{verdict, left};
-ghost use Rattle.lines.specs.Lines.{draft_lines, begin_refusal, add_refusal, patch_refusal, keep_refusal};
+ghost use Rattle.std.specs.Prelude.{◌≡◌, length, if◌then◌else◌, MatchResult, refl};
+ghost use Rattle.lines.specs.Faults.{verdict};
+ghost use Rattle.lines.specs.Lines.{begin_refusal, add_refusal, patch_refusal, keep_refusal};
+ghost use Rattle.lines.specs.Stores.{begun, added, patched, kept};
 ghost use Rattle.blocks.specs.Blocks.{fits, stands, block_refusal, Begins, Listed, Listless, Drafted, Draftless};
-ghost use Rattle.blocks.specs.Stores.{store_list, store_draft, store_limits, store_health, StoreLaid};
+ghost use Rattle.blocks.specs.Stores.{store_list, store_draft, store_limits, store_health, block_store, StoreLaid};
 ghost use Rattle.blocks.specs.BlockLaws.{list_lawful, draft_lawful, limits_lawful};
 
 use crate::indexed::Indexed;
@@ -133,17 +134,17 @@ impl<'a, L: Layout> LineSource for BlockStore<'a, L> {
 }
 
 impl<'a, L: Layout> LineStore for BlockStore<'a, L> {
-    ghost draft = { λ s. store_draft L.Layout.own s };
-
-    ghost limits = { λ s. store_limits L.Layout.own s };
-
-    ghost bottom = { λ _. L.Layout.KIND };
+    ghost store = { λ s. block_store L.Layout.own s };
 
     ghost lawful_draft = { λ s. draft_lawful L.Layout.lines L.Layout.size L.Layout.counted L.Layout.lawful s.block.now s.at };
 
     ghost lawful_limits = { λ s. limits_lawful L.Layout.size s.block.now s.at };
 
     ghost lawful_bottom = { λ _. L.Layout.lawful_kind };
+
+    ghost same_lines = { λ _. refl };
+
+    ghost same_health = { λ _. refl };
 
     fn limits(&self) -> (usize, usize) {
         self.listed()
@@ -154,15 +155,11 @@ impl<'a, L: Layout> LineStore for BlockStore<'a, L> {
         L::KIND
     }
 
-    // The storing calls repeat the clauses of their trait, `bottom` among them, and add `layout`: where list and draft
-    // lie in their sheets as the layout has them, they do so afterwards.
+    // The storing calls repeat the two clauses of their trait, which those of an impl replace, and add `layout`: where
+    // list and draft lie in their sheets as the layout has them, they do so afterwards.
     fn begin(&mut self) -> Result<(), Fault>
-        ensures answer { result ≡ verdict (begin_refusal (store_limits L.Layout.own self.old)) tt }
-        ensures draft { store_draft L.Layout.own self.new ≡ left (begin_refusal (store_limits L.Layout.own self.old)) (Some []) (store_draft L.Layout.own self.old) }
-        ensures list { store_list L.Layout.own self.new ≡ store_list L.Layout.own self.old }
-        ensures health { store_health self.new ≡ store_health self.old }
-        ensures limits { store_limits L.Layout.own self.new ≡ store_limits L.Layout.own self.old }
-        ensures bottom { L.Layout.KIND ≡ L.Layout.KIND }
+        ensures answer { result ≡ verdict (begin_refusal (block_store L.Layout.own self.old).limits) tt }
+        ensures store { block_store L.Layout.own self.new ≡ begun (block_store L.Layout.own self.old) }
         ensures layout { StoreLaid L.Layout.own self.old → StoreLaid L.Layout.own self.new }
     {
         let (lines, _) = self.limits();
@@ -174,12 +171,8 @@ impl<'a, L: Layout> LineStore for BlockStore<'a, L> {
     }
 
     fn add(&mut self, line: &[u8]) -> Result<(), Fault>
-        ensures answer { result ≡ verdict (add_refusal (store_draft L.Layout.own self.old) (store_limits L.Layout.own self.old) line.now) tt }
-        ensures draft { store_draft L.Layout.own self.new ≡ left (add_refusal (store_draft L.Layout.own self.old) (store_limits L.Layout.own self.old) line.now) (Some (draft_lines (store_draft L.Layout.own self.old) ++ (line.now ∷ []))) (store_draft L.Layout.own self.old) }
-        ensures list { store_list L.Layout.own self.new ≡ store_list L.Layout.own self.old }
-        ensures health { store_health self.new ≡ store_health self.old }
-        ensures limits { store_limits L.Layout.own self.new ≡ store_limits L.Layout.own self.old }
-        ensures bottom { L.Layout.KIND ≡ L.Layout.KIND }
+        ensures answer { result ≡ verdict (add_refusal (block_store L.Layout.own self.old).draft (block_store L.Layout.own self.old).limits line.now) tt }
+        ensures store { block_store L.Layout.own self.new ≡ added line.now (block_store L.Layout.own self.old) }
         ensures layout { StoreLaid L.Layout.own self.old → StoreLaid L.Layout.own self.new }
     {
         let draft = self.drafted()?;
@@ -207,12 +200,8 @@ impl<'a, L: Layout> LineStore for BlockStore<'a, L> {
     }
 
     fn patch(&mut self, n: usize, line: &[u8]) -> Result<(), Fault>
-        ensures answer { result ≡ verdict (patch_refusal (store_draft L.Layout.own self.old) n line.now) tt }
-        ensures draft { store_draft L.Layout.own self.new ≡ left (patch_refusal (store_draft L.Layout.own self.old) n line.now) (Some (slice_set (draft_lines (store_draft L.Layout.own self.old)) (n - 1) line.now)) (store_draft L.Layout.own self.old) }
-        ensures list { store_list L.Layout.own self.new ≡ store_list L.Layout.own self.old }
-        ensures health { store_health self.new ≡ store_health self.old }
-        ensures limits { store_limits L.Layout.own self.new ≡ store_limits L.Layout.own self.old }
-        ensures bottom { L.Layout.KIND ≡ L.Layout.KIND }
+        ensures answer { result ≡ verdict (patch_refusal (block_store L.Layout.own self.old).draft n line.now) tt }
+        ensures store { block_store L.Layout.own self.new ≡ patched n line.now (block_store L.Layout.own self.old) }
         ensures layout { StoreLaid L.Layout.own self.old → StoreLaid L.Layout.own self.new }
     {
         let draft = self.drafted()?;
@@ -228,12 +217,8 @@ impl<'a, L: Layout> LineStore for BlockStore<'a, L> {
     }
 
     fn keep(&mut self) -> Result<(), Fault>
-        ensures answer { result ≡ verdict (keep_refusal (store_draft L.Layout.own self.old)) tt }
-        ensures draft { store_draft L.Layout.own self.new ≡ None }
-        ensures list { store_list L.Layout.own self.new ≡ left (keep_refusal (store_draft L.Layout.own self.old)) (draft_lines (store_draft L.Layout.own self.old)) (store_list L.Layout.own self.old) }
-        ensures health { store_health self.new ≡ left (keep_refusal (store_draft L.Layout.own self.old)) 0 (store_health self.old) }
-        ensures limits { store_limits L.Layout.own self.new ≡ store_limits L.Layout.own self.old }
-        ensures bottom { L.Layout.KIND ≡ L.Layout.KIND }
+        ensures answer { result ≡ verdict (keep_refusal (block_store L.Layout.own self.old).draft) tt }
+        ensures store { block_store L.Layout.own self.new ≡ kept (block_store L.Layout.own self.old) }
         ensures layout { StoreLaid L.Layout.own self.old → StoreLaid L.Layout.own self.new }
     {
         let draft = self.drafted()?;

@@ -1,4 +1,3 @@
 pub mod Sum
 pub mod Layer
 pub mod Change
-pub mod Stores

@@ -1,9 +1,7 @@
-ghost use Rattle.std.specs.Prelude.{◌≡◌, ◌≤◌, [], ◌∷◌, length, Some, None, nat_le};
-ghost use Rattle.lines.specs.Faults.{verdict, left};
+ghost use Rattle.std.specs.Prelude.{◌≡◌, ◌≤◌, length, nat_le};
+ghost use Rattle.lines.specs.Faults.{verdict};
 ghost use Rattle.lines.specs.Lines.{draft_lines, begin_refusal, keep_refusal};
-ghost use Rattle.lines.specs.Stores.{meaning, drafting, rewritten};
-ghost use Rattle.checksum.specs.Sum.{sum_of, marked};
-ghost use Rattle.checksum.specs.Layer.{rest, layer_health, above, draft_lawful, limits_above};
+ghost use Rattle.checksum.specs.Layer.{above, draft_lawful, limits_above, begun_below, kept_below};
 
 use crate::sum::{SUM_LENGTH, ZERO_LINE, sum_after, sum_line};
 use lines::fault::{Cause, Fault};
@@ -14,7 +12,7 @@ use lines::store::LineStore;
 // Has the draft a line n, counted from 1?
 fn has_line<S: LineStore>(store: &S, n: usize) -> bool
     requires { 1 ≤ n }
-    ensures { result ≡ nat_le n (length (draft_lines (S.LineStore.draft store.now))) }
+    ensures { result ≡ nat_le n (length (draft_lines (S.LineStore.store store.now).draft)) }
 {
     store.look(n, &mut [0; LONGEST]).is_ok()
 }
@@ -26,11 +24,11 @@ struct Draft<'a, S> {
 }
 
 impl<'a, S: LineStore> LineSource for Draft<'a, S> {
-    ghost lines = { λ d. draft_lines (S.LineStore.draft d.of.now) };
+    ghost lines = { λ d. draft_lines (S.LineStore.store d.of.now).draft };
 
     ghost health = { λ _. 0 };
 
-    ghost lawful = { λ d. draft_lawful (S.LineStore.draft d.of.now) (S.LineStore.lawful_draft d.of.now) };
+    ghost lawful = { λ d. draft_lawful (S.LineStore.store d.of.now).draft (S.LineStore.lawful_draft d.of.now) };
 
     fn count(&self) -> usize {
         (1..=MOST_LINES)
@@ -52,7 +50,7 @@ impl<'a, S: LineStore> LineSource for Draft<'a, S> {
 
 // Refuses where the draft below has no first line of the length of one that holds a sum.
 pub(crate) fn need_draft<S: LineStore>(below: &S) -> Result<(), Fault>
-    ensures { result ≡ verdict (keep_refusal (above (S.LineStore.draft below.now))) tt }
+    ensures { result ≡ verdict (keep_refusal (above (S.LineStore.store below.now).draft)) tt }
 {
     match fetch(&Draft { of: below }, 1) {
         Some(line) if line.as_slice().len() == SUM_LENGTH => Ok(()),
@@ -62,13 +60,8 @@ pub(crate) fn need_draft<S: LineStore>(below: &S) -> Result<(), Fault>
 
 // Begins a draft below, and puts a first line into it that keeps the place of the sum.
 pub(crate) fn begin_below<S: LineStore>(below: &mut S) -> Result<(), Fault>
-    ensures answer { result ≡ verdict (begin_refusal (limits_above (S.LineStore.limits below.old))) tt }
-    ensures draft { above (S.LineStore.draft below.new) ≡ left (begin_refusal (limits_above (S.LineStore.limits below.old))) (Some []) (above (S.LineStore.draft below.old)) }
-    ensures list { S.LineSource.lines below.new ≡ S.LineSource.lines below.old }
-    ensures health { S.LineSource.health below.new ≡ S.LineSource.health below.old }
-    ensures limits { S.LineStore.limits below.new ≡ S.LineStore.limits below.old }
-    ensures bottom { S.LineStore.bottom below.new ≡ S.LineStore.bottom below.old }
-    ensures below { meaning S.LineSource S.LineStore.own below.new ≡ left (begin_refusal (limits_above (S.LineStore.limits below.old))) (drafting (marked 0 ∷ []) (meaning S.LineSource S.LineStore.own below.old)) (meaning S.LineSource S.LineStore.own below.old) }
+    ensures answer { result ≡ verdict (begin_refusal (limits_above (S.LineStore.store below.old).limits)) tt }
+    ensures store { S.LineStore.store below.new ≡ begun_below (S.LineStore.store below.old) }
 {
     let (lines, bytes) = below.limits();
     if lines < 2 || bytes < SUM_LENGTH {
@@ -80,13 +73,8 @@ pub(crate) fn begin_below<S: LineStore>(below: &mut S) -> Result<(), Fault>
 
 // Writes the sum of the draft's other lines into its first line, and keeps the draft.
 pub(crate) fn keep_below<S: LineStore>(below: &mut S) -> Result<(), Fault>
-    ensures answer { result ≡ verdict (keep_refusal (above (S.LineStore.draft below.old))) tt }
-    ensures draft { above (S.LineStore.draft below.new) ≡ None }
-    ensures list { rest (S.LineSource.lines below.new) ≡ left (keep_refusal (above (S.LineStore.draft below.old))) (draft_lines (above (S.LineStore.draft below.old))) (rest (S.LineSource.lines below.old)) }
-    ensures health { layer_health (S.LineSource.health below.new) (S.LineSource.lines below.new) ≡ left (keep_refusal (above (S.LineStore.draft below.old))) 0 (layer_health (S.LineSource.health below.old) (S.LineSource.lines below.old)) }
-    ensures limits { S.LineStore.limits below.new ≡ S.LineStore.limits below.old }
-    ensures bottom { S.LineStore.bottom below.new ≡ S.LineStore.bottom below.old }
-    ensures below { meaning S.LineSource S.LineStore.own below.new ≡ left (keep_refusal (above (S.LineStore.draft below.old))) (rewritten (marked (sum_of (draft_lines (above (S.LineStore.draft below.old)))) ∷ draft_lines (above (S.LineStore.draft below.old))) (meaning S.LineSource S.LineStore.own below.old)) (meaning S.LineSource S.LineStore.own below.old) }
+    ensures answer { result ≡ verdict (keep_refusal (above (S.LineStore.store below.old).draft)) tt }
+    ensures store { S.LineStore.store below.new ≡ kept_below (S.LineStore.store below.old) }
 {
     need_draft(below)?;
     let line = sum_line(sum_after(&Draft { of: below }, 1));

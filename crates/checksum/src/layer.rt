@@ -1,10 +1,8 @@
-ghost use Rattle.std.specs.Prelude.{◌≡◌, ◌-◌, [], ◌∷◌, ◌++◌, Some, None, slice_set};
-ghost use Rattle.lines.specs.Faults.{verdict, left};
-ghost use Rattle.lines.specs.Lines.{draft_lines, begin_refusal, add_refusal, patch_refusal, keep_refusal};
-ghost use Rattle.lines.specs.Stores.{drafting, rewritten};
-ghost use Rattle.checksum.specs.Sum.{sum_of, marked};
-ghost use Rattle.checksum.specs.Layer.{number_below, rest_lawful, above_lawful, limits_lawful};
-ghost use Rattle.checksum.specs.Stores.{layer_lines, layer_health_of, layer_draft, layer_limits, layer_bottom, below_of};
+ghost use Rattle.std.specs.Prelude.{◌≡◌};
+ghost use Rattle.lines.specs.Faults.{verdict};
+ghost use Rattle.lines.specs.Lines.{begin_refusal, add_refusal, patch_refusal, keep_refusal};
+ghost use Rattle.lines.specs.Stores.{begun, added, patched, kept};
+ghost use Rattle.checksum.specs.Layer.{rest, layer_health, number_below, over, begun_below, added_below, patched_below, kept_below, rest_lawful, above_lawful, limits_lawful};
 
 use crate::draft::{begin_below, keep_below, need_draft};
 use crate::sum::{SUM_LENGTH, holds_sum};
@@ -57,9 +55,9 @@ fn number_below(n: usize) -> Result<usize, Fault>
 }
 
 impl<S: LineSource> LineSource for Checksum<S> {
-    ghost lines = { λ c. layer_lines S.LineSource c };
+    ghost lines = { λ c. rest (S.LineSource.lines c.below) };
 
-    ghost health = { λ c. layer_health_of S.LineSource c };
+    ghost health = { λ c. layer_health (S.LineSource.health c.below) (S.LineSource.lines c.below) };
 
     ghost lawful = { λ c. rest_lawful (S.LineSource.lines c.below) (S.LineSource.lawful c.below) };
 
@@ -81,17 +79,17 @@ impl<S: LineSource> LineSource for Checksum<S> {
 }
 
 impl<S: LineStore> LineStore for Checksum<S> {
-    ghost draft = { λ c. layer_draft S.LineStore.own c };
+    ghost store = { λ c. over (S.LineStore.store c.below) };
 
-    ghost limits = { λ c. layer_limits S.LineStore.own c };
+    ghost lawful_draft = { λ c. above_lawful (S.LineStore.store c.below).draft (S.LineStore.lawful_draft c.below) };
 
-    ghost bottom = { λ c. layer_bottom S.LineStore.own c };
-
-    ghost lawful_draft = { λ c. above_lawful (S.LineStore.draft c.below) (S.LineStore.lawful_draft c.below) };
-
-    ghost lawful_limits = { λ c. limits_lawful (S.LineStore.limits c.below) (S.LineStore.lawful_limits c.below) };
+    ghost lawful_limits = { λ c. limits_lawful (S.LineStore.store c.below).limits (S.LineStore.lawful_limits c.below) };
 
     ghost lawful_bottom = { λ c. S.LineStore.lawful_bottom c.below };
+
+    ghost same_lines = { λ c i. rest (S.LineStore.same_lines c.below i) };
+
+    ghost same_health = { λ c i. layer_health (S.LineStore.same_health c.below i) (S.LineStore.same_lines c.below i) };
 
     fn limits(&self) -> (usize, usize) {
         let (lines, bytes) = self.below.limits();
@@ -106,25 +104,17 @@ impl<S: LineStore> LineStore for Checksum<S> {
     }
 
     fn begin(&mut self) -> Result<(), Fault>
-        ensures answer { result ≡ verdict (begin_refusal (layer_limits S.LineStore.own self.old)) tt }
-        ensures draft { layer_draft S.LineStore.own self.new ≡ left (begin_refusal (layer_limits S.LineStore.own self.old)) (Some []) (layer_draft S.LineStore.own self.old) }
-        ensures list { layer_lines S.LineSource self.new ≡ layer_lines S.LineSource self.old }
-        ensures health { layer_health_of S.LineSource self.new ≡ layer_health_of S.LineSource self.old }
-        ensures limits { layer_limits S.LineStore.own self.new ≡ layer_limits S.LineStore.own self.old }
-        ensures bottom { layer_bottom S.LineStore.own self.new ≡ layer_bottom S.LineStore.own self.old }
-        ensures below { below_of S.LineSource S.LineStore.own self.new ≡ left (begin_refusal (layer_limits S.LineStore.own self.old)) (drafting (marked 0 ∷ []) (below_of S.LineSource S.LineStore.own self.old)) (below_of S.LineSource S.LineStore.own self.old) }
+        ensures answer { result ≡ verdict (begin_refusal (over (S.LineStore.store self.old.below)).limits) tt }
+        ensures store { over (S.LineStore.store self.new.below) ≡ begun (over (S.LineStore.store self.old.below)) }
+        ensures below { S.LineStore.store self.new.below ≡ begun_below (S.LineStore.store self.old.below) }
     {
         begin_below(&mut self.below)
     }
 
     fn add(&mut self, line: &[u8]) -> Result<(), Fault>
-        ensures answer { result ≡ verdict (add_refusal (layer_draft S.LineStore.own self.old) (layer_limits S.LineStore.own self.old) line.now) tt }
-        ensures draft { layer_draft S.LineStore.own self.new ≡ left (add_refusal (layer_draft S.LineStore.own self.old) (layer_limits S.LineStore.own self.old) line.now) (Some (draft_lines (layer_draft S.LineStore.own self.old) ++ (line.now ∷ []))) (layer_draft S.LineStore.own self.old) }
-        ensures list { layer_lines S.LineSource self.new ≡ layer_lines S.LineSource self.old }
-        ensures health { layer_health_of S.LineSource self.new ≡ layer_health_of S.LineSource self.old }
-        ensures limits { layer_limits S.LineStore.own self.new ≡ layer_limits S.LineStore.own self.old }
-        ensures bottom { layer_bottom S.LineStore.own self.new ≡ layer_bottom S.LineStore.own self.old }
-        ensures below { below_of S.LineSource S.LineStore.own self.new ≡ left (add_refusal (layer_draft S.LineStore.own self.old) (layer_limits S.LineStore.own self.old) line.now) (drafting (draft_lines (below_of S.LineSource S.LineStore.own self.old).draft ++ (line.now ∷ [])) (below_of S.LineSource S.LineStore.own self.old)) (below_of S.LineSource S.LineStore.own self.old) }
+        ensures answer { result ≡ verdict (add_refusal (over (S.LineStore.store self.old.below)).draft (over (S.LineStore.store self.old.below)).limits line.now) tt }
+        ensures store { over (S.LineStore.store self.new.below) ≡ added line.now (over (S.LineStore.store self.old.below)) }
+        ensures below { S.LineStore.store self.new.below ≡ added_below line.now (S.LineStore.store self.old.below) }
     {
         need_draft(&self.below)?;
         self.below.add(line)
@@ -136,13 +126,9 @@ impl<S: LineStore> LineStore for Checksum<S> {
     }
 
     fn patch(&mut self, n: usize, line: &[u8]) -> Result<(), Fault>
-        ensures answer { result ≡ verdict (patch_refusal (layer_draft S.LineStore.own self.old) n line.now) tt }
-        ensures draft { layer_draft S.LineStore.own self.new ≡ left (patch_refusal (layer_draft S.LineStore.own self.old) n line.now) (Some (slice_set (draft_lines (layer_draft S.LineStore.own self.old)) (n - 1) line.now)) (layer_draft S.LineStore.own self.old) }
-        ensures list { layer_lines S.LineSource self.new ≡ layer_lines S.LineSource self.old }
-        ensures health { layer_health_of S.LineSource self.new ≡ layer_health_of S.LineSource self.old }
-        ensures limits { layer_limits S.LineStore.own self.new ≡ layer_limits S.LineStore.own self.old }
-        ensures bottom { layer_bottom S.LineStore.own self.new ≡ layer_bottom S.LineStore.own self.old }
-        ensures below { below_of S.LineSource S.LineStore.own self.new ≡ left (patch_refusal (layer_draft S.LineStore.own self.old) n line.now) (drafting (slice_set (draft_lines (below_of S.LineSource S.LineStore.own self.old).draft) n line.now) (below_of S.LineSource S.LineStore.own self.old)) (below_of S.LineSource S.LineStore.own self.old) }
+        ensures answer { result ≡ verdict (patch_refusal (over (S.LineStore.store self.old.below)).draft n line.now) tt }
+        ensures store { over (S.LineStore.store self.new.below) ≡ patched n line.now (over (S.LineStore.store self.old.below)) }
+        ensures below { S.LineStore.store self.new.below ≡ patched_below n line.now (S.LineStore.store self.old.below) }
     {
         need_draft(&self.below)?;
         if !is_line(line) {
@@ -152,13 +138,9 @@ impl<S: LineStore> LineStore for Checksum<S> {
     }
 
     fn keep(&mut self) -> Result<(), Fault>
-        ensures answer { result ≡ verdict (keep_refusal (layer_draft S.LineStore.own self.old)) tt }
-        ensures draft { layer_draft S.LineStore.own self.new ≡ None }
-        ensures list { layer_lines S.LineSource self.new ≡ left (keep_refusal (layer_draft S.LineStore.own self.old)) (draft_lines (layer_draft S.LineStore.own self.old)) (layer_lines S.LineSource self.old) }
-        ensures health { layer_health_of S.LineSource self.new ≡ left (keep_refusal (layer_draft S.LineStore.own self.old)) 0 (layer_health_of S.LineSource self.old) }
-        ensures limits { layer_limits S.LineStore.own self.new ≡ layer_limits S.LineStore.own self.old }
-        ensures bottom { layer_bottom S.LineStore.own self.new ≡ layer_bottom S.LineStore.own self.old }
-        ensures below { below_of S.LineSource S.LineStore.own self.new ≡ left (keep_refusal (layer_draft S.LineStore.own self.old)) (rewritten (marked (sum_of (draft_lines (layer_draft S.LineStore.own self.old))) ∷ draft_lines (layer_draft S.LineStore.own self.old)) (below_of S.LineSource S.LineStore.own self.old)) (below_of S.LineSource S.LineStore.own self.old) }
+        ensures answer { result ≡ verdict (keep_refusal (over (S.LineStore.store self.old.below)).draft) tt }
+        ensures store { over (S.LineStore.store self.new.below) ≡ kept (over (S.LineStore.store self.old.below)) }
+        ensures below { S.LineStore.store self.new.below ≡ kept_below (S.LineStore.store self.old.below) }
     {
         keep_below(&mut self.below)
     }

@@ -1,7 +1,6 @@
 ghost use Rattle.std.specs.Prelude.{◌≡◌};
-ghost use Rattle.lines.specs.Faults.{verdict, left};
-ghost use Rattle.lines.specs.Stores.{meaning, rewritten};
-ghost use Rattle.whole.specs.Whole.{whole_refusal};
+ghost use Rattle.lines.specs.Faults.{verdict};
+ghost use Rattle.whole.specs.Whole.{whole_refusal, stored};
 ghost use Rattle.tablearc.specs.Keeping.{kept_as};
 
 use crate::report::Kept;
@@ -15,8 +14,8 @@ use whole::stored::store_whole;
 
 // Stores a table in a store, reads it back and compares it line for line. Nothing ever differs.
 pub fn keep_table<S: LineSource, D: LineStore>(table: &S, store: &mut D) -> Result<Kept, Fault>
-    ensures answer { result ≡ verdict (whole_refusal (S.LineSource.health table.now) (S.LineSource.lines table.now) (meaning D.LineSource D.LineStore.own store.old)) (kept_as (S.LineSource.lines table.now) (D.LineStore.limits store.old)) }
-    ensures store { meaning D.LineSource D.LineStore.own store.new ≡ left (whole_refusal (S.LineSource.health table.now) (S.LineSource.lines table.now) (meaning D.LineSource D.LineStore.own store.old)) (rewritten (S.LineSource.lines table.now) (meaning D.LineSource D.LineStore.own store.old)) (meaning D.LineSource D.LineStore.own store.old) }
+    ensures answer { result ≡ verdict (whole_refusal (S.LineSource.health table.now) (S.LineSource.lines table.now) (D.LineStore.store store.old)) (kept_as (S.LineSource.lines table.now) (D.LineStore.store store.old).limits) }
+    ensures store { D.LineStore.store store.new ≡ stored (S.LineSource.health table.now) (S.LineSource.lines table.now) (D.LineStore.store store.old) }
 {
     store_whole(table, store)?;
     let lines = store.count();

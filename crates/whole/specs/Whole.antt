@@ -8,12 +8,13 @@
 -- first_difference      the same counted from 1; none exactly where the lists are equal
 -- fits lim ls           these lines pass neither limit of a store that can begin a draft
 -- whole_refusal h ls s  the refusal of making ls, the lines of a source with health h, the list of the store s
+-- stored h ls s         the store s after that: rewritten by ls, or as it was where that is refused
 use Rattle.std.specs.Prelude.{ℕ, ◌+◌, Bool, cond, not, ◌&&◌, List, [], ◌∷◌, ◌++◌, length, take, drop, Some, None, Option, ◌==◌, nat_le, nat_lt}
 use Rattle.std.specs.Str.{bytes_eq}
 use Rattle.lines.specs.declared.fault.Cause.TheVariants.{NotWhole, BufferTooSmall, NoRoom}
-use Rattle.lines.specs.Faults.{Refusal, accepted, plain, layered, when}
+use Rattle.lines.specs.Faults.{Refusal, accepted, plain, layered, when, left}
 use Rattle.lines.specs.Lines.{Line, total}
-use Rattle.lines.specs.Stores.{Store}
+use Rattle.lines.specs.Stores.{Store, rewritten}
 
 abbrev pub row_at : Line → ℕ → List ℕ → List ℕ
 row_at l at buf = take at buf ++ (l ++ (10 ∷ drop (at + length l + 1) buf))
@@ -43,3 +44,6 @@ fits lim ls = not (lim.0 == 0) && (nat_le (length ls) lim.0 && nat_le (total ls)
 abbrev pub whole_refusal : ℕ → List Line → Store → Refusal
 whole_refusal h ls s =
     when (not (h == 0)) (layered NotWhole h) (when (not (fits s.limits ls)) (layered NoRoom s.bottom) accepted)
+
+abbrev pub stored : ℕ → List Line → Store → Store
+stored h ls s = left (whole_refusal h ls s) (rewritten ls s) s

@@ -15,7 +15,7 @@ pub fn total_bytes<S: LineSource>(source: &S) -> usize
 
 // Would the lines of a source pass no limit of a store?
 pub fn has_room<S: LineSource, D: LineStore>(source: &S, store: &D) -> bool
-    ensures { result ≡ fits (D.LineStore.limits store.now) (S.LineSource.lines source.now) }
+    ensures { result ≡ fits (D.LineStore.store store.now).limits (S.LineSource.lines source.now) }
 {
     let (lines, bytes) = store.limits();
     lines != 0 && source.count() <= lines && total_bytes(source) <= bytes

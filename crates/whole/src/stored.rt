@@ -1,7 +1,7 @@
 ghost use Rattle.std.specs.Prelude.{◌≡◌, true, [], Some, Ok};
-ghost use Rattle.lines.specs.Faults.{verdict, left};
-ghost use Rattle.lines.specs.Stores.{meaning, rewritten, drafting};
-ghost use Rattle.whole.specs.Whole.{fits, whole_refusal};
+ghost use Rattle.lines.specs.Faults.{verdict};
+ghost use Rattle.lines.specs.Stores.{drafting};
+ghost use Rattle.whole.specs.Whole.{fits, whole_refusal, stored};
 
 use crate::measure::has_room;
 use lines::each::Lines;
@@ -12,8 +12,8 @@ use lines::store::LineStore;
 // Makes the lines of a source the list of a store, whatever that was before: a draft begun, every line added in order,
 // and kept. A source that is not whole, or that has no room, is refused before the draft is begun.
 pub fn store_whole<S: LineSource, D: LineStore>(source: &S, store: &mut D) -> Result<(), Fault>
-    ensures answer { result ≡ verdict (whole_refusal (S.LineSource.health source.now) (S.LineSource.lines source.now) (meaning D.LineSource D.LineStore.own store.old)) tt }
-    ensures store { meaning D.LineSource D.LineStore.own store.new ≡ left (whole_refusal (S.LineSource.health source.now) (S.LineSource.lines source.now) (meaning D.LineSource D.LineStore.own store.old)) (rewritten (S.LineSource.lines source.now) (meaning D.LineSource D.LineStore.own store.old)) (meaning D.LineSource D.LineStore.own store.old) }
+    ensures answer { result ≡ verdict (whole_refusal (S.LineSource.health source.now) (S.LineSource.lines source.now) (D.LineStore.store store.old)) tt }
+    ensures store { D.LineStore.store store.new ≡ stored (S.LineSource.health source.now) (S.LineSource.lines source.now) (D.LineStore.store store.old) }
 {
     let health = source.health();
     if health != 0 {
@@ -29,10 +29,10 @@ pub fn store_whole<S: LineSource, D: LineStore>(source: &S, store: &mut D) -> Re
 
 // Adds all lines of a source to a draft without lines.
 fn add_all<S: LineSource, D: LineStore>(source: &S, store: &mut D) -> Result<(), Fault>
-    requires begun { D.LineStore.draft store.old ≡ Some [] }
-    requires room { fits (D.LineStore.limits store.old) (S.LineSource.lines source.now) ≡ true }
+    requires begun { (D.LineStore.store store.old).draft ≡ Some [] }
+    requires room { fits (D.LineStore.store store.old).limits (S.LineSource.lines source.now) ≡ true }
     ensures answer { result ≡ Ok tt }
-    ensures store { meaning D.LineSource D.LineStore.own store.new ≡ drafting (S.LineSource.lines source.now) (meaning D.LineSource D.LineStore.own store.old) }
+    ensures store { D.LineStore.store store.new ≡ drafting (S.LineSource.lines source.now) (D.LineStore.store store.old) }
 {
     for line in Lines::of(source) {
         store.add(line.as_slice())?;

@@ -19,4 +19,4 @@ looks (Some d) n ok one =
 
 pub returns : goal.returns
 returns g c =
-    c.is_ok.ensures.value ∙ ap is_ok c.look.ensures.answer ∙ looks (g.S.LineStore.draft c.args.store.now) c.args.n (g.S.LineStore.lawful_draft c.args.store.now) c.requires
+    c.is_ok.ensures.value ∙ ap is_ok c.look.ensures.answer ∙ looks (g.S.LineStore.store c.args.store.now).draft c.args.n (g.S.LineStore.lawful_draft c.args.store.now) c.requires
