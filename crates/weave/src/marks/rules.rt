@@ -23,7 +23,7 @@ impl<'a> OpenMarks<'a> {
         OpenMarks { queue, top }
     }
 
-    // The greatest open insertion. 0 where there is none: with 0 the rules compare, and a set is asked for 0.
+    // The greatest open insertion. (No `Option`: where there is none, the rules compare with 0 and ask a set for 0.)
     fn inserter(&self) -> u64
         ensures { result ≡ inserter (open_marks self.now.queue) }
     {
@@ -127,7 +127,7 @@ impl<'a> OpenMarks<'a> {
             Some(BodyRecord::Insert(n)) => self.begin(Mark::Insert(n)),
             Some(BodyRecord::Delete(n)) => self.begin(Mark::Delete(n)),
             Some(BodyRecord::End(n)) => {
-                let _ = self.queue.remove(u64::from(n));
+                self.queue.remove(u64::from(n));
             }
             Some(BodyRecord::Text(_)) | None => {}
         }
