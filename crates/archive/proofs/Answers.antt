@@ -1,5 +1,5 @@
 -- What the calls answer, from what the head was read as and what was chosen.
-use Rattle.std.proofs.Common.{arith, ◌≡◌, ℕ, List, length, Some, None, Ok, Err, Option, Result, sym, refl, ap, ◌∙◌}
+use Rattle.std.proofs.Common.{◌≡◌, ℕ, List, length, Some, None, Ok, Err, Option, Result, sym, refl, ap, ◌∙◌}
 use mathlib.Core.Path.{fun_ext}
 use Rattle.std.specs.Result as results
 use Rattle.lines.specs.declared.fault.Fault.{Fault}
@@ -21,12 +21,12 @@ use Rattle.archive.specs.declared.request.Request.{Request}
 
 -- what an answer says of the refusal
 pub refused : {A : Type 0} (q : Refusal) (a : A) (r : Result A Fault) (f : Fault) → r ≡ verdict q a → r ≡ Err f → q ≡ Some f
-refused None a r f is err = let z : ◌≡◌ {A = ℕ} 0 1 = cc in absurd (omega arith)
+refused None a r f is err = cc
 refused (Some g) a r f is err = cc
 
 pub passed : {A : Type 0} (q : Refusal) (a : A) (r : Result A Fault) (x : A) → r ≡ verdict q a → r ≡ Ok x → (q ≡ None) × (x ≡ a)
 passed None a r x is ok = (refl, cc)
-passed (Some g) a r x is ok = let z : ◌≡◌ {A = ℕ} 0 1 = cc in absurd (omega arith)
+passed (Some g) a r x is ok = (cc, cc)
 
 -- a request of a version that is there is refused for its lists only
 pub known : (es : List Entry) (r : Request) (v top : ℕ) (l : Lists) (o : Option ℕ) → serial_of es r.sid ≡ Some v → top ≡ length es → l ≡ lists_of r → o ≡ first_bad top l → request_refusal es r ≡ listed o

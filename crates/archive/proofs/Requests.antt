@@ -1,8 +1,7 @@
 -- The smallest bad serial, found from 0 on; lists as masks.
-use Rattle.std.proofs.Common.{◌≡◌, ℕ, zero, suc, cond, refl, ◌+◌, ◌<◌, Bool, true, false, Some, ⊎_elim, sym, ap, ◌∙◌, arith}
-use Rattle.std.specs.List.{find, range_with_len}
+use Rattle.std.proofs.Common.{◌≡◌, ℕ, suc, ◌+◌, ◌-◌, ◌<◌, ◌≤◌, Bool, true, false, Some, None, sym, ap, ◌∙◌, arith}
 use mathlib.Core.Path.{fun_ext}
-use Rattle.std.proofs.lemmas.Bool.{cases_Bool, cond-true, cond-false}
+use Rattle.std.proofs.lemmas.Bool.{cond-true, cond-false}
 use Rattle.sets.specs.Bits.{Serials, bit}
 use Rattle.sets.specs.Serials.{serials}
 use Rattle.sets.specs.declared.set.SerialSet.{SerialSet}
@@ -11,17 +10,18 @@ use Rattle.weave.specs.Tables.{lists}
 use Rattle.archive.specs.Requests.{lists_of, least_from}
 use Rattle.archive.specs.declared.request.Request.{Request}
 
-pub least_is : (p : ℕ → Bool) (k n : ℕ) → find p (range_with_len k n) ≡ least_from p k n
-least_is p k zero = refl
-least_is p k (suc n) = ap (cond (p k) (Some k)) (least_is p (k + 1) n)
+module _ (p : ℕ → Bool) (k n : ℕ) (low : k < n) where
+  one_more : n - k ≡ suc (n - (k + 1))
+  one_more = omega arith
 
-pub least_below : (p : ℕ → Bool) (k n r : ℕ) → least_from p k n ≡ Some r → r < k + n
-least_below p k zero r is = let z : ◌≡◌ {A = ℕ} 0 1 = cc in absurd (omega arith)
-least_below p k (suc n) r is =
-    ⊎_elim
-    (λ (h : p k ≡ true). let here : Some k ≡ Some r = sym (cond-true _ _ _ h) ∙ is in let e : k ≡ r = cc in omega arith)
-    (λ (h : p k ≡ false). omega (arith, least_below p (k + 1) n r (sym (cond-false _ _ _ h) ∙ is)))
-    (cases_Bool (p k))
+  pub least_here : p k ≡ true → Some k ≡ least_from p k (n - k)
+  least_here is = sym (ap (least_from p k) one_more ∙ cond-true _ _ _ is)
+
+  pub least_later : p k ≡ false → least_from p (k + 1) (n - (k + 1)) ≡ least_from p k (n - k)
+  least_later is = sym (ap (least_from p k) one_more ∙ cond-false _ _ _ is)
+
+pub least_none : (p : ℕ → Bool) (k n : ℕ) → n ≤ k → None ≡ least_from p k (n - k)
+least_none p k n past = let none : n - k ≡ 0 = omega arith in sym (ap (least_from p k) none)
 
 both : Serials → Serials → Lists
 both i x = record { includes = i; excludes = x }

@@ -1,7 +1,7 @@
 ghost use Rattle.std.specs.Prelude.{◌≡◌, ℕ, ◌<◌, ◌&&◌, length, Some, None, MatchResult};
 ghost use Rattle.sets.specs.Serials.{serials};
 ghost use Rattle.head.specs.Tables.{entries};
-ghost use Rattle.weave.specs.Tables.{listed};
+ghost use Rattle.weave.specs.Tables.{lists};
 ghost use Rattle.archive.specs.Requests.{is_bad, first_bad, request_refusal, request_set};
 
 use crate::request::Request;
@@ -11,20 +11,24 @@ use sets::{Lists, SERIALS, SerialSet};
 use weave::version::set_of;
 
 // Is the serial listed, and 0, above the number of deltas, or in both lists?
-fn is_bad(top: u8, call: Lists, k: u64) -> bool
-    ensures { result ≡ is_bad top (listed call) k }
+fn is_bad(top: u8, includes: SerialSet, excludes: SerialSet, k: u64) -> bool
+    ensures { result ≡ is_bad top (lists includes excludes) k }
 {
-    let ins = call.includes.contains(k);
-    let outs = call.excludes.contains(k);
+    let ins = includes.contains(k);
+    let outs = excludes.contains(k);
     (ins || outs) && (k == 0 || k > u64::from(top) || ins && outs)
 }
 
 // The smallest bad serial of two lists.
-fn first_bad(top: u8, call: Lists) -> Option<u8>
-    ensures { result ≡ first_bad top (listed call) }
+fn first_bad(top: u8, includes: SerialSet, excludes: SerialSet) -> Option<u8>
+    ensures { result ≡ first_bad top (lists includes excludes) }
 {
-    let k = (0..SERIALS).find(|k| is_bad(top, call, *k))?;
-    Some(k as u8)
+    for k in 0..SERIALS {
+        if is_bad(top, includes, excludes, k) {
+            return Some(k as u8);
+        }
+    }
+    None
 }
 
 // The set that a request asks for.
@@ -34,12 +38,10 @@ pub fn choose(table: &Table, request: Request) -> Result<SerialSet, Fault>
     let Some(version) = table.find(request.sid) else {
         return Err(Fault::plain(Cause::NoSuchVersion));
     };
-    let call = Lists {
-        includes: SerialSet::from_mask(request.includes),
-        excludes: SerialSet::from_mask(request.excludes),
-    };
-    if let Some(serial) = first_bad(table.len() as u8, call) {
+    let includes = SerialSet::from_mask(request.includes);
+    let excludes = SerialSet::from_mask(request.excludes);
+    if let Some(serial) = first_bad(table.len() as u8, includes, excludes) {
         return Err(Fault::of_serial(Cause::ListedSerial, serial));
     }
-    Ok(set_of(table, version, call))
+    Ok(set_of(table, version, Lists { includes, excludes }))
 }

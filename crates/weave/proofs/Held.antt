@@ -1,5 +1,5 @@
 -- What the weave says of open marks, read off the slots that hold them by rising key.
-use Rattle.std.proofs.Common.{◌≡◌, ℕ, zero, suc, ◌<◌, ◌≤◌, Bool, true, false, cond, not, ◌&&◌, ◌||◌, eqb, ltb, List, [], ◌∷◌, ◌++◌, map, length, get_or, reverse, All, Some, None, Option, MatchOption, Bor, sym, refl, ap, ◌∙◌, ⊎_elim, arith}
+use Rattle.std.proofs.Common.{◌≡◌, ℕ, zero, suc, ◌<◌, ◌≤◌, Bool, true, false, cond, ◌&&◌, ◌||◌, eqb, ltb, List, [], ◌∷◌, ◌++◌, map, length, get_or, reverse, All, Some, None, Option, MatchOption, Bor, sym, refl, ap, ◌∙◌, ⊎_elim, arith}
 use Rattle.std.specs.List.{find, list_any, take_while}
 use Rattle.std.specs.Option.{option_map, option_or, unwrap_or}
 use Rattle.std.proofs.lemmas.List.{get_or-map, length-map, reverse-append}
@@ -18,7 +18,7 @@ use Rattle.queue.proofs.Orders.{rises, rising_few}
 use Rattle.records.specs.BodyRecords as weave
 use Rattle.sets.specs.Bits.{Serials}
 use Rattle.records.specs.BodyRecords.{insertion, deletion, serial}
-use Rattle.weave.specs.Marks.{with_mark, closed, inserter, deleted_above, visible}
+use Rattle.weave.specs.Marks.{with_mark, closed, inserter, deleted_above}
 use Rattle.weave.specs.Rules.{is_open, is_deleting, may_open}
 use Rattle.weave.specs.Open.{number, is_insertion, is_deletion, kind, mark_of, open_marks, Bounded}
 use Rattle.weave.specs.declared.mark.Mark.{Mark}
@@ -50,10 +50,6 @@ without_is k (t ∷ ts) =
 or_cond : (a b : Bool) → cond a true b ≡ (a || b)
 or_cond true b = refl
 or_cond false b = refl
-
-and_nothing : (a b : Bool) → ((a && false) || b) ≡ b
-and_nothing true b = refl
-and_nothing false b = refl
 
 pub holds_is : (k : ℕ) (ss : List (Slot Mark)) → holds k ss ≡ is_open k (marks ss)
 unfolding is_open
@@ -214,16 +210,6 @@ bounded_few top ss up b =
     let n = length-map ss (λ (t : Slot Mark). t.key) in
     let few = rising_few (keys ss) top up (bounded_at top ss b) in
     omega arith
-
--- what is visible, by the two questions
-module _ (s : Serials) (ms : List weave.Mark) (n : ℕ) (is : n ≡ inserter ms) where
-  pub visible_in : (d : Bool) → true ≡ s n → d ≡ deleted_above s n ms → not d ≡ visible s ms
-  unfolding visible
-  visible_in d has deletes = rw (sym is, sym has, sym deletes)
-
-  pub visible_out : false ≡ s n → false ≡ visible s ms
-  unfolding visible
-  visible_out out = rw (sym is, sym out)
 
 -- what an allowed record leaves
 module _ (q : Queue Mark) (top : ℕ) (bounded : Bounded top (open_marks q)) (fits : top < room q) where

@@ -1,10 +1,10 @@
 -- The steps of a writer.
 use Rattle.std.proofs.Common.{◌≡◌, ℕ, ◌+◌, ◌<◌, ◌≤◌, List, [], ◌∷◌, ◌++◌, length, take, drop, sym, ap, ◌∙◌, arith}
 use Rattle.std.proofs.lemmas.Bool.{lt-leb}
-use Rattle.std.proofs.lemmas.List.{append_assoc, append-nil, length-append, length-take-le, take_at, drop_at, drop-drop, length-drop, take-append-drop}
+use Rattle.std.proofs.lemmas.List.{append_assoc, length-append, length-take-le, take_at, drop_at, drop-drop, length-drop}
 use Rattle.lines.specs.declared.fault.Cause.TheVariants.{BufferTooSmall}
 use Rattle.lines.specs.Faults.{accepted, plain}
-use Rattle.lines.specs.Lines.{Line, fronted}
+use Rattle.lines.specs.Lines.{Line}
 use Rattle.lines.proofs.LineLaws.{check_passes}
 use Rattle.whole.specs.Whole.{row_at, row_refusal, text_of}
 
@@ -42,18 +42,3 @@ written_more all was out new at l left w is =
       front = ap (λ xs. xs ++ text_of left) (ap (take n) split ∙ take_at front tail n long) ∙ sym (joined (text_of left)) ∙ w.front;
       rest = ap (drop n) split ∙ drop_at front tail n long ∙ sym (past out) ∙ ap (drop (length l + 1)) w.rest ∙ past was;
     }
-
-pub written_as : {all was : List ℕ} (out new : List ℕ) (at to : ℕ) (left rest : List Line) → new ≡ out → to ≡ at → rest ≡ left → Written all was out at left → Written all was new to rest
-written_as out new at to left rest is here same w = record {
-  fits = rw (is, here, same) w.fits;
-  front = rw (is, here, same) w.front;
-  rest = rw (is, here) w.rest;
-}
-
-pub written_all : (was out : List ℕ) (at : ℕ) (ls : List Line) → Written (text_of ls) was out at [] → out ≡ fronted (text_of ls) was
-written_all was out at ls w =
-    let fits = w.fits in
-    let front : take at out ≡ text_of ls = sym (append-nil (take at out)) ∙ w.front in
-    let a = length-take-le at out (omega arith) in
-    let here : at ≡ length (text_of ls) = sym a ∙ ap length front in
-    sym (take-append-drop at out) ∙ ap (λ xs. xs ++ drop at out) front ∙ ap (λ ys. text_of ls ++ ys) (w.rest ∙ ap (λ k. drop k was) here)

@@ -11,7 +11,8 @@ use lines::fault::{Cause, Fault};
 use lines::source::LineSource;
 use sets::SerialSet;
 
-// Checks the rules of the body that stands after `head` lines; `top` is the greatest serial.
+// Checks the rules of the body that stands after `head` lines; `top` is the greatest serial. (No struct of the three: a
+// caller has them from three places, and would build it for one call.)
 pub fn check_body<S: LineSource>(source: &S, head: usize, top: u8) -> Result<(), Fault>
     ensures { result ≡ verdict (body_refusal top head (S.LineSource.lines source.now)) tt }
 {

@@ -23,7 +23,7 @@ impl<'a> OpenMarks<'a> {
         OpenMarks { queue, top }
     }
 
-    // The greatest open insertion. 0 where there is none: with 0 the rules compare, and a set is asked for 0.
+    // The greatest open insertion. (No `Option`: where there is none, the rules compare with 0 and ask a set for 0.)
     fn inserter(&self) -> u64
         ensures { result ≡ inserter (open_marks self.now.queue) }
     {
@@ -42,6 +42,7 @@ impl<'a> OpenMarks<'a> {
     }
 
     // Does the set show a line that stands here?
+    #[tactic(auto, unfolding(crate::specs::Marks::visible))]
     fn shows(&self, set: SerialSet) -> bool
         ensures { result ≡ visible (serials set) (open_marks self.now.queue) }
     {
@@ -72,6 +73,7 @@ impl<'a> OpenMarks<'a> {
     }
 
     // May a mark of this serial open here?
+    #[tactic(auto, using(crate::proofs::Held::holds_is), unfolding(crate::specs::Rules::may_open))]
     fn may_open(&self, n: u8) -> bool
         ensures { result ≡ may_open self.now.top n (open_marks self.now.queue) }
     {
@@ -80,6 +82,7 @@ impl<'a> OpenMarks<'a> {
     }
 
     // May the mark of this serial close here?
+    #[tactic(auto, using(crate::proofs::Held::is_open_under, crate::proofs::Held::is_deleting_under), unfolding(crate::specs::Rules::may_close))]
     fn may_close(&self, n: u8) -> bool
         ensures { result ≡ may_close n (open_marks self.now.queue) }
     {
@@ -104,6 +107,7 @@ impl<'a> OpenMarks<'a> {
     }
 
     // Opens a mark that may open. It is refused neither as held nor for want of room, since its serial is at most `top`.
+    #[tactic(auto, using(crate::proofs::Held::opened, crate::proofs::Held::bounded_opened))]
     fn begin(&mut self, mark: Mark)
         requires { may_open self.old.top (number mark) (open_marks self.old.queue) ≡ true }
         ensures after { open_marks self.new.queue ≡ with_mark (kind mark (number mark)) (open_marks self.old.queue) }
@@ -113,6 +117,7 @@ impl<'a> OpenMarks<'a> {
     }
 
     // Opens or closes what an allowed record opens or closes.
+    #[tactic(auto, using(crate::proofs::Held::without_is))]
     pub(crate) fn follow(&mut self, next: Option<BodyRecord>)
         requires { allowed self.old.top (open_marks self.old.queue) (meaning next) ≡ true }
         ensures after { open_marks self.new.queue ≡ then_open (open_marks self.old.queue) (meaning next.entry) }
@@ -122,7 +127,7 @@ impl<'a> OpenMarks<'a> {
             Some(BodyRecord::Insert(n)) => self.begin(Mark::Insert(n)),
             Some(BodyRecord::Delete(n)) => self.begin(Mark::Delete(n)),
             Some(BodyRecord::End(n)) => {
-                let _ = self.queue.remove(u64::from(n));
+                self.queue.remove(u64::from(n));
             }
             Some(BodyRecord::Text(_)) | None => {}
         }

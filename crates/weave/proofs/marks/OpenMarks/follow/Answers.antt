@@ -1,4 +1,4 @@
-use Rattle.std.proofs.Common.{sym, ap, ◌∙◌, subst, rules, arith}
+use Rattle.std.proofs.Common.{sym, ap, ◌∙◌, subst, arith}
 use Rattle.queue.specs.Items.{items}
 use Rattle.weave.specs.Open.{open_marks, Bounded}
 use Rattle.weave.proofs.Held.{marks, without_is, bounded_closed}
@@ -10,9 +10,3 @@ invariant_of-self c =
     let n = c.in-Some-End.n in
     let is = ap marks (rw c.from.ensures at c.remove.ensures.after) ∙ without_is n (items m.queue) in
     record { bounded = subst (Bounded m.top) (sym is) (bounded_closed m.top n (open_marks m.queue) m.bounded); fits = omega (arith, c.remove.ensures.room, m.fits) }
-
-pub returns-in-Some-End-clause-after : goal.returns-in-Some-End-clause-after
-returns-in-Some-End-clause-after c =
-    let q = c.args.self.now.queue in
-    let is = ap marks (rw c.from.ensures at c.remove.ensures.after) ∙ without_is c.in-Some-End.n (items q) in
-    search rules
