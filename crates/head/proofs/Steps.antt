@@ -32,14 +32,14 @@ module _ (b : Ahead) where
       let ahead = ap (λ (x : Unit × Ahead). x.1) both in
       let place : p + 1 - 1 ≡ p = omega arith in
       ap (λ q. proceed to q (λ es t. walk (p + 1) es t ls)) (sym place) ∙ ap (λ (a : Ahead). proceed to (a.0 - 1) (rest a)) (sym ahead)
-  formed p ls to true (Err g) h = let no : ◌≡◌ {A = ℕ} 0 1 = cc in absurd (omega arith)
-  formed p ls to false (Ok u) h = let no : ◌≡◌ {A = ℕ} 0 1 = cc in absurd (omega arith)
-  formed p ls to false (Err g) h = let it : placed HeadForm p ≡ g = cc in ap Err it
+  formed p ls to true (Err g) h = cc
+  formed p ls to false (Ok u) h = cc
+  formed p ls to false (Err g) h = cc
 
   pub demanded : (f : Line → Bool) (a : Ahead) (r : Result Unit Fault) → taken r b ≡ demand f a → (es : List Entry) (t : Turn) (to : Step) → ((l : Line) → judge es t l ≡ formal (f l) to)
       → rest a es t ≡ carried r (λ u. proceed to (b.0 - 1) (rest b))
-  demanded f (p, []) (Ok u) h es t to is = let no : ◌≡◌ {A = ℕ} 0 1 = cc in absurd (omega arith)
-  demanded f (p, []) (Err g) h es t to is = let it : placed HeadForm p ≡ g = cc in ap Err it
+  demanded f (p, []) (Ok u) h es t to is = cc
+  demanded f (p, []) (Err g) h es t to is = cc
   demanded f (p, l ∷ ls) r h es t to is = ap (λ s. proceed s p (λ es t. walk (p + 1) es t ls)) (is l) ∙ formed p ls to (f l) r h
 
   -- a delta record
@@ -51,13 +51,13 @@ module _ (b : Ahead) where
       let ahead = ap (λ (x : DeltaRecord × Ahead). x.1) both in
       let same = sym (ap (λ (x : DeltaRecord × Ahead). x.0) both) in
       ap (λ y. proceed (on_delta es (Some y)) p (λ es t. walk (p + 1) es t ls)) same ∙ ap (λ (a : Ahead). proceed (on_delta es (Some d)) p (rest a)) (sym ahead)
-  said p ls es (Some x) (Err g) h = let no : ◌≡◌ {A = ℕ} 0 1 = cc in absurd (omega arith)
-  said p ls es None (Ok d) h = let no : ◌≡◌ {A = ℕ} 0 1 = cc in absurd (omega arith)
-  said p ls es None (Err g) h = let it : placed HeadForm p ≡ g = cc in ap Err it
+  said p ls es (Some x) (Err g) h = cc
+  said p ls es None (Ok d) h = cc
+  said p ls es None (Err g) h = cc
 
   pub delta_said : (a : Ahead) (r : Result DeltaRecord Fault) → taken r b ≡ take_as delta_record a → (es : List Entry) → rest a es delta ≡ carried r (λ d. proceed (on_delta es (Some d)) a.0 (rest b))
-  delta_said (p, []) (Ok d) h es = let no : ◌≡◌ {A = ℕ} 0 1 = cc in absurd (omega arith)
-  delta_said (p, []) (Err g) h es = let it : placed HeadForm p ≡ g = cc in ap Err it
+  delta_said (p, []) (Ok d) h es = cc
+  delta_said (p, []) (Err g) h es = cc
   delta_said (p, l ∷ ls) r h es = said p ls es (delta_record l) r h
 
   -- a list record, or another in its place
@@ -69,9 +69,9 @@ module _ (b : Ahead) where
         let ahead = ap (λ (x : SerialSet × Ahead). x.1) both in
         let same = sym (ap (λ (x : SerialSet × Ahead). x.0) both) in
         ap (λ x. walk (p + 1) es (k x) ls) same ∙ ap (λ (a : Ahead). rest a es (k m)) (sym ahead)
-    set_in p l ls (Ok n) (Err g) h = let no : ◌≡◌ {A = ℕ} 0 1 = cc in absurd (omega arith)
-    set_in p l ls (Err c) (Ok m) h = let no : ◌≡◌ {A = ℕ} 0 1 = cc in absurd (omega arith)
-    set_in p l ls (Err c) (Err g) h = let it : placed c p ≡ g = cc in ap Err it
+    set_in p l ls (Ok n) (Err g) h = cc
+    set_in p l ls (Err c) (Ok m) h = cc
+    set_in p l ls (Err c) (Err g) h = cc
 
     module _ (mark : Line)
         (none : (l : Line) → after mark l ≡ None → judge es turn l ≡ judge es (k unlisted) l)
@@ -83,11 +83,11 @@ module _ (b : Ahead) where
           let ahead = ap (λ (x : SerialSet × Ahead). x.1) both in
           let same = sym (ap (λ (x : SerialSet × Ahead). x.0) both) in
           ap (λ s. proceed s p (λ es t. walk (p + 1) es t ls)) (none l is) ∙ ap (λ x. rest (p, l ∷ ls) es (k x)) same ∙ ap (λ (a : Ahead). rest a es (k m)) (sym ahead)
-      found p l ls None is (Err g) h = let no : ◌≡◌ {A = ℕ} 0 1 = cc in absurd (omega arith)
+      found p l ls None is (Err g) h = cc
       found p l ls (Some x) is r h =
           ap (λ s. proceed s p (λ es t. walk (p + 1) es t ls)) (some l x is) ∙ set_in p l ls (serial_list own other x) r h
 
       pub listed : (a : Ahead) (r : Result SerialSet Fault) → taken r b ≡ list_at mark own other a → rest a es turn ≡ carried r (λ m. rest b es (k m))
-      listed (p, []) (Ok m) h = let no : ◌≡◌ {A = ℕ} 0 1 = cc in absurd (omega arith)
-      listed (p, []) (Err g) h = let it : placed HeadForm p ≡ g = cc in ap Err it
+      listed (p, []) (Ok m) h = cc
+      listed (p, []) (Err g) h = cc
       listed (p, l ∷ ls) r h = found p l ls (after mark l) refl r h

@@ -26,12 +26,12 @@ pub not-one : (o : Option ℕ) → true ≡ not (option_eq eqb o (Some 1)) → o
 not-one o h z = let no : true ≡ false = h ∙ ap (λ o. not (option_eq eqb o (Some 1))) z in let y : ◌≡◌ {A = ℕ} 0 1 = cc in omega arith
 
 pub is-one : (o : Option ℕ) → false ≡ not (option_eq eqb o (Some 1)) → o ≡ Some 1
-is-one None h = let y : ◌≡◌ {A = ℕ} 0 1 = cc in absurd (omega arith)
+is-one None h = cc
 is-one (Some b) h = go (eqb b 1) refl h
   where
     go : (t : _) → eqb b 1 ≡ t → false ≡ not t → Some b ≡ Some 1
     go true e h = ap Some (eqb-true b 1 e)
-    go false e h = let y : ◌≡◌ {A = ℕ} 0 1 = cc in absurd (omega arith)
+    go false e h = cc
 
 two : (o : Option ℕ) → 1 ≤ unwrap_or o 64 → (o ≡ Some 1 → ⊥) → 2 ≤ unwrap_or o 64
 two None some more = omega arith

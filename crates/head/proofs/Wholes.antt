@@ -126,7 +126,7 @@ includes_next es e l (Some r) s =
 
 sofar_in_order : (es : List Entry) (n : ℕ) → Ready es → in_order es n ≡ true → 1 ≤ n → (a : ℕ) × Sofar a es n
 sofar_in_order [] n r o one = (n, (leb-true n 63 (and_parts (leb 1 n) (leb n 63) o).1, refl, tt, tt))
-sofar_in_order (e ∷ es) n (inl q) o one = let z : ◌≡◌ {A = ℕ} 0 1 = cc in absurd (omega arith)
+sofar_in_order (e ∷ es) n (inl q) o one = cc
 sofar_in_order (e ∷ es) n (inr s) o one =
     let b = runs_last e es s.0 s.1 n s.2.1 o in
     (s.0, (s.2.0, subst (Runs s.0 (e ∷ es)) (sym b) s.2.1, s.2.2, s.2.3))

@@ -1,7 +1,7 @@
 ghost use Rattle.std.specs.Prelude.{◌≡◌, ◌<◌, true};
 ghost use Rattle.head.specs.Heads.{sound, follows};
 
-use crate::table::{Entry, has_sid, last_serial};
+use crate::table::{Entry, MOST_DELTAS, has_sid, last_serial};
 use records::delta_record::DeltaRecord;
 
 // May the serial n come after `before`, that of the last entry?
@@ -10,7 +10,7 @@ fn follows_on(before: Option<u8>, n: u32) -> bool
     ensures small { result ≡ true → n < 256 }
 {
     match before {
-        None => (1..=63).contains(&n),
+        None => (1..=MOST_DELTAS as u32).contains(&n),
         Some(before) => u32::from(before).checked_sub(1) == Some(n),
     }
 }

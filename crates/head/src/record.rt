@@ -68,9 +68,7 @@ impl<'a, S: LineSource> Records<'a, S> {
         ensures { Takes (FnOnceReturnsAt F.FnOnce read) self.old result self.new }
     {
         let record = self.peek()?;
-        let Some(value) = read(record.as_slice()) else {
-            return Err(self.refuse(Cause::HeadForm));
-        };
+        let value = read(record.as_slice()).ok_or(self.refuse(Cause::HeadForm))?;
         self.passed += 1;
         Ok(value)
     }
