@@ -1,5 +1,4 @@
 pub mod Ahead
-pub mod Steps
 pub mod Orders
 pub mod Entries
 pub mod Gathers

@@ -14,7 +14,7 @@ returns-in_err-excludes g c =
     let none = ap (λ s. list_at includes_mark d.serial s a) c.empty-none.ensures.value in
     let e = including i (opened d) in
     fills_err a d _ _ b2 _ (handed_on _ _ c.from_residual-in_err-excludes.ensures.1)
-    (λ es. to_excludes a b1 es d (Ok i) (c.in_ok-includes.ensures ∙ none) ∙ to_comment b1 b2 es e (Err c.in_err-excludes.field-0.0) c.in_err-excludes.ensures refl)
+    (λ es. to_excludes a b1 es d (Ok i) (c.in_ok-includes.ensures ∙ none) ∙ to_comment b1 b2 es e (Err c.in_err-excludes.field-0.0) refl c.in_err-excludes.ensures)
 
 pub returns-in_err-take_comment : goal.returns-in_err-take_comment
 returns-in_err-take_comment g c =
@@ -30,7 +30,7 @@ returns-in_err-take_comment g c =
     fills_err a d _ _ b3 _ (handed_on _ _ c.from_residual-in_err-take_comment.ensures.1)
     (λ es.
     to_excludes a b1 es d (Ok i) (c.in_ok-includes.ensures ∙ none)
-    ∙ to_comment b1 b2 es e (Ok x) c.in_ok-excludes.ensures refl
+    ∙ to_comment b1 b2 es e (Ok x) refl c.in_ok-excludes.ensures
     ∙ to_close b2 b3 es (excluding x e) (Err c.in_err-take_comment.field-0.0) c.in_err-take_comment.ensures)
 
 pub returns : goal.returns
@@ -48,6 +48,6 @@ returns g c =
     filled a d (excluding x e) c.take_mark.result b4 refl
     (λ es.
     to_excludes a b1 es d (Ok i) (c.in_ok-includes.ensures ∙ none)
-    ∙ to_comment b1 b2 es e (Ok x) c.in_ok-excludes.ensures refl
+    ∙ to_comment b1 b2 es e (Ok x) refl c.in_ok-excludes.ensures
     ∙ to_close b2 b3 es (excluding x e) (Ok tt) c.in_ok-take_comment.ensures
     ∙ to_next b3 b4 es (excluding x e) c.take_mark.result c.take_mark.ensures)

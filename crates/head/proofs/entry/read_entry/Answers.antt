@@ -4,8 +4,7 @@ use Rattle.std.proofs.lemmas.Bool.{and_parts}
 use Rattle.head.specs.Heads.{sound, in_order, after_entry}
 use Rattle.head.specs.Reading.{rest}
 use Rattle.head.specs.Tables.{entries}
-use Rattle.head.proofs.Steps.{delta_said}
-use Rattle.head.proofs.Entries.{handed_on, to_delta, to_lists, refused, adds_err}
+use Rattle.head.proofs.Entries.{handed_on, to_delta, to_sound, to_lists, refused, adds_err}
 use Rattle.head.proofs.entry.read_entry.Goals as goal
 
 pub returns-in_err-d : goal.returns-in_err-d
@@ -15,7 +14,7 @@ returns-in_err-d g c =
     let b1 = c.take_counts.new.self in
     let b2 = c.take_delta.new.self in
     adds_err a es _ b2 _ _ (handed_on _ _ c.from_residual-in_err-d.ensures.1)
-    (to_delta a b1 es (Ok tt) c.in_ok-take_counts.ensures ∙ delta_said b2 b1 (Err c.in_err-d.field-0.0) c.in_err-d.ensures es)
+    (to_delta a b1 es (Ok tt) c.in_ok-take_counts.ensures ∙ to_sound b2 es b1 (Err c.in_err-d.field-0.0) c.in_err-d.ensures)
 
 pub returns-then-not-is_sound : goal.returns-then-not-is_sound
 returns-then-not-is_sound g c =
@@ -25,7 +24,7 @@ returns-then-not-is_sound g c =
     let b2 = c.take_delta.new.self in
     let d = c.in_ok-d.d in
     let bad : sound es d ≡ false = ap (λ xs. sound xs d) (sym c.entries.ensures.value) ∙ sym c.if-not-is_sound.ensures.value in
-    to_delta a b1 es (Ok tt) c.in_ok-take_counts.ensures ∙ refused b1 b2 es d c.in_ok-d.ensures bad ∙ ap Err (sym c.refuse-fault.ensures)
+    to_delta a b1 es (Ok tt) c.in_ok-take_counts.ensures ∙ refused b2 es b1 d c.in_ok-d.ensures bad ∙ ap Err (sym c.refuse-fault.ensures)
 
 pub returns-in_err-fill_entry : goal.returns-in_err-fill_entry
 returns-in_err-fill_entry g c =
@@ -36,7 +35,7 @@ returns-in_err-fill_entry g c =
     let d = c.in_ok-d.d in
     let good : sound es d ≡ true = ap (λ xs. sound xs d) (sym c.entries.ensures.value) ∙ sym c.if-not-is_sound.ensures.value in
     adds_err a es _ _ _ _ (handed_on _ _ c.from_residual-in_err-fill_entry.ensures.1)
-    (to_delta a b1 es (Ok tt) c.in_ok-take_counts.ensures ∙ to_lists b1 b2 es d c.in_ok-d.ensures good ∙ c.in_err-fill_entry.ensures es)
+    (to_delta a b1 es (Ok tt) c.in_ok-take_counts.ensures ∙ to_lists b2 es b1 d c.in_ok-d.ensures good ∙ c.in_err-fill_entry.ensures es)
 
 pub returns : goal.returns
 returns g c =
@@ -58,7 +57,7 @@ returns g c =
       pushed,
       ap (in_order es) fills.0 ∙ ordered,
       to_delta a b1 es (Ok tt) c.in_ok-take_counts.ensures
-          ∙ to_lists b1 b2 es d c.in_ok-d.ensures good
+          ∙ to_lists b2 es b1 d c.in_ok-d.ensures good
           ∙ fills.1 es
           ∙ ap (λ n. rest b3 (es ++ e ∷ []) (after_entry n)) (sym fills.0)
           ∙ ap (λ fs. rest b3 fs (after_entry e.serial)) (sym pushed),
