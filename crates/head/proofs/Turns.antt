@@ -1,7 +1,7 @@
 -- A head that is read entry by entry. Assumes nothing.
-use Rattle.std.proofs.Common.{◌≡◌, ℕ, ◌+◌, ◌-◌, ◌<◌, ◌≤◌, true, false, not, eqb, leb, List, [], length, Some, None, Ok, Err, Option, unwrap_or, sym, refl, ap, ◌∙◌, arith}
+use Rattle.std.proofs.Common.{◌≡◌, ℕ, ◌+◌, ◌-◌, ◌<◌, ◌≤◌, true, false, not, eqb, List, [], length, Some, Ok, Err, Option, unwrap_or, sym, refl, ap, ◌∙◌, arith}
 use Rattle.std.specs.Option.{option_eq}
-use Rattle.std.proofs.lemmas.Bool.{and_parts, cond-false, ne_eqb, leb-true, eqb-true}
+use Rattle.std.proofs.lemmas.Grind.{common_steps}
 use Rattle.std.proofs.lemmas.List.{length_push}
 use Rattle.lines.specs.declared.fault.Fault.{Fault}
 use Rattle.lines.specs.Lines.{Line}
@@ -23,32 +23,19 @@ begun ls = (omega arith, omega arith, refl)
 
 -- is the last entry there?
 pub not-one : (o : Option ℕ) → true ≡ not (option_eq eqb o (Some 1)) → o ≡ Some 1 → ⊥
-not-one o h z = let no : true ≡ false = h ∙ ap (λ o. not (option_eq eqb o (Some 1))) z in let y : ◌≡◌ {A = ℕ} 0 1 = cc in omega arith
+not-one o h z = grind (arith, common_steps)
 
 pub is-one : (o : Option ℕ) → false ≡ not (option_eq eqb o (Some 1)) → o ≡ Some 1
-is-one None h = cc
-is-one (Some b) h = go (eqb b 1) refl h
-  where
-    go : (t : _) → eqb b 1 ≡ t → false ≡ not t → Some b ≡ Some 1
-    go true e h = ap Some (eqb-true b 1 e)
-    go false e h = cc
+is-one o h = grind (arith, common_steps)
 
 two : (o : Option ℕ) → 1 ≤ unwrap_or o 64 → (o ≡ Some 1 → ⊥) → 2 ≤ unwrap_or o 64
-two None some more = omega arith
-two (Some b) some more = let other : b ≡ 1 → ⊥ = λ z. more (ap Some z) in omega arith
+two o some more = grind (arith, common_steps)
 
 lower : (o : Option ℕ) (n : ℕ) → follows o n ≡ true → 2 ≤ unwrap_or o 64 → (1 ≤ n) × (n + 1 ≤ unwrap_or o 64)
-lower None n h some =
-    let p = and_parts (leb 1 n) (leb n 63) h in
-    let top : n ≤ 63 = leb-true n 63 p.1 in (
-      leb-true 1 n p.0,
-      omega arith,
-    )
-lower (Some b) n h some = let q : n + 1 ≡ b = eqb-true (n + 1) b h in (omega arith, omega arith)
+lower o n h some = grind (arith, common_steps)
 
 to_counts : (o : Option ℕ) → (o ≡ Some 1 → ⊥) → turn_after o ≡ counts
-to_counts None more = refl
-to_counts (Some b) more = cond-false _ _ _ (ne_eqb b 1 (λ z. more (ap Some z)))
+to_counts o more = grind (arith, common_steps)
 
 module _ (ls : List Line) (a b : Ahead) (es : List Entry) (so : Sofar ls a es) where
   module _ (more : last_serial es ≡ Some 1 → ⊥) where
