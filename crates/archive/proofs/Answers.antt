@@ -19,6 +19,15 @@ use Rattle.archive.specs.Requests.{lists_of, first_bad, listed, list_refusal, kn
 use Rattle.archive.specs.Reading.{get_refusal, get_lines}
 use Rattle.archive.specs.declared.request.Request.{Request}
 
+-- what an answer says of the refusal
+pub refused : {A : Type 0} (q : Refusal) (a : A) (r : Result A Fault) (f : Fault) → r ≡ verdict q a → r ≡ Err f → q ≡ Some f
+refused None a r f is err = cc
+refused (Some g) a r f is err = cc
+
+pub passed : {A : Type 0} (q : Refusal) (a : A) (r : Result A Fault) (x : A) → r ≡ verdict q a → r ≡ Ok x → (q ≡ None) × (x ≡ a)
+passed None a r x is ok = (refl, cc)
+passed (Some g) a r x is ok = (cc, cc)
+
 -- a request of a version that is there is refused for its lists only
 pub known : (es : List Entry) (r : Request) (v top : ℕ) (l : Lists) (o : Option ℕ) → serial_of es r.sid ≡ Some v → top ≡ length es → l ≡ lists_of r → o ≡ first_bad top l → request_refusal es r ≡ listed o
 known es r v top l o found few same bad =

@@ -7,7 +7,7 @@ ghost use Rattle.archive.specs.Requests.{is_bad, first_bad, request_refusal, req
 use crate::request::Request;
 use head::table::Table;
 use lines::fault::{Cause, Fault};
-use sets::{SERIALS, SerialSet};
+use sets::{Lists, SERIALS, SerialSet};
 use weave::version::set_of;
 
 // Is the serial listed, and 0, above the number of deltas, or in both lists?
@@ -43,5 +43,5 @@ pub fn choose(table: &Table, request: Request) -> Result<SerialSet, Fault>
     if let Some(serial) = first_bad(table.len() as u8, includes, excludes) {
         return Err(Fault::of_serial(Cause::ListedSerial, serial));
     }
-    Ok(set_of(table, version, includes, excludes))
+    Ok(set_of(table, version, Lists { includes, excludes }))
 }

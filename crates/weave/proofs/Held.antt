@@ -1,7 +1,13 @@
 -- What the weave says of open marks, read off the slots that hold them by rising key.
-use Rattle.std.proofs.Common.{◌≡◌, ℕ, zero, suc, ◌+◌, ◌-◌, ◌<◌, ◌≤◌, Bool, true, false, cond, not, ◌&&◌, ◌||◌, eqb, ltb, List, [], ◌∷◌, map, length, get_or, drop, Some, None, Option, sym, refl, ap, ◌∙◌, arith}
-use Rattle.std.proofs.lemmas.List.{get_or-map, length-map, at_drop_more}
-use Rattle.std.proofs.lemmas.Bool.{cond_both, cond-true, cond-false, or_right, eqb-true, ne_eqb, le-ltb, lt-ltb}
+use Rattle.std.proofs.Common.{◌≡◌, ℕ, zero, suc, ◌<◌, ◌≤◌, Bool, true, false, cond, ◌&&◌, ◌||◌, eqb, ltb, List, [], ◌∷◌, ◌++◌, map, length, get_or, reverse, All, Some, None, Option, MatchOption, Bor, sym, refl, ap, ◌∙◌, ⊎_elim, arith}
+use Rattle.std.specs.List.{find, list_any, take_while}
+use Rattle.std.specs.Option.{option_map, option_or, unwrap_or}
+use Rattle.std.proofs.lemmas.List.{get_or-map, length-map, reverse-append}
+use Rattle.std.proofs.lemmas.List.Elements.{All-cons, All-head, All-tail, All-from_get_or}
+use Rattle.std.proofs.lemmas.List.Folds.{find-append}
+use Rattle.std.proofs.lemmas.List.Sorted.{All-permutation, IsPermutation-reverse, list_any-IsPermutation}
+use Rattle.std.proofs.lemmas.List.Sums.{take_while-cons}
+use Rattle.std.proofs.lemmas.Bool.{cond_both, cond-true, cond-false, eqb-true, ne_eqb, le-ltb, lt-ltb, cases_lt}
 use Rattle.std.proofs.lemmas.Bool.Decides.{nat_tests}
 use Rattle.queue.specs.Slots.{keys, Rising, holds, under, with_slot, without}
 use Rattle.queue.specs.declared.slots.Slot.{Slot}
@@ -12,9 +18,9 @@ use Rattle.queue.proofs.Orders.{rises, rising_few}
 use Rattle.records.specs.BodyRecords as weave
 use Rattle.sets.specs.Bits.{Serials}
 use Rattle.records.specs.BodyRecords.{insertion, deletion, serial}
-use Rattle.weave.specs.Marks.{with_mark, closed, inserter, deleted_above, visible}
+use Rattle.weave.specs.Marks.{with_mark, closed, inserter, deleted_above}
 use Rattle.weave.specs.Rules.{is_open, is_deleting, may_open}
-use Rattle.weave.specs.Open.{number, kind, mark_of, open_marks, Bounded}
+use Rattle.weave.specs.Open.{number, is_insertion, is_deletion, kind, mark_of, open_marks, Bounded}
 use Rattle.weave.specs.declared.mark.Mark.{Mark}
 use Rattle.weave.specs.declared.mark.Mark.TheVariants.{Insert, Delete}
 
@@ -44,10 +50,6 @@ without_is k (t ∷ ts) =
 or_cond : (a b : Bool) → cond a true b ≡ (a || b)
 or_cond true b = refl
 or_cond false b = refl
-
-and_nothing : (a b : Bool) → ((a && false) || b) ≡ b
-and_nothing true b = refl
-and_nothing false b = refl
 
 pub holds_is : (k : ℕ) (ss : List (Slot Mark)) → holds k ss ≡ is_open k (marks ss)
 unfolding is_open
@@ -101,96 +103,106 @@ is_deleting_under k (t ∷ ts) up =
     first_deletes k t.element t.key (marks ts) same (none_later k ts (λ i h. let next = up 0 (suc i) (omega arith) (omega arith) in omega arith)))
     (λ e. is_deleting_apart k t.element t.key (marks ts) e ∙ is_deleting_under k ts (tail_rises _ _ up))
 
--- a mark that lies below the greatest insertion, and one that is it
-below_inserter : (e : Mark) (n : ℕ) (ms : List weave.Mark) → n ≤ inserter ms → inserter (kind e n ∷ ms) ≡ inserter ms
+-- the first insertion from the last slot down is the greatest
+newest_more : (e : Mark) (n : ℕ) (s : Slot Mark) (o : Option (Slot Mark)) (low : ℕ) (ms : List weave.Mark) → s.key ≡ n → low ≤ n → MatchOption o (inserter ms ≡ 0) (λ t. (inserter ms ≡ t.key) × (n < t.key))
+    → MatchOption (option_or o (cond (is_insertion e) (Some s) None)) (inserter (kind e n ∷ ms) ≡ 0) (λ t. (inserter (kind e n ∷ ms) ≡ t.key) × (low ≤ t.key))
 unfolding inserter
-below_inserter (Insert j) n ms low = omega arith
-below_inserter (Delete j) n ms low = refl
+newest_more (Insert j) n s None low ms key above none = (omega arith, omega arith)
+newest_more (Delete j) n s None low ms key above none = none
+newest_more (Insert j) n s (Some t) low ms key above (is, more) = (omega arith, omega arith)
+newest_more (Delete j) n s (Some t) low ms key above (is, more) = (is, omega arith)
 
-pub is_inserter : (e : Mark) (n : ℕ) (ms : List weave.Mark) (j : ℕ) → e ≡ Insert j → inserter ms ≡ 0 → inserter (kind e n ∷ ms) ≡ n
+newest : (ss : List (Slot Mark)) (low : ℕ) → Rising (keys ss) → ((i : ℕ) → i < length ss → low ≤ get_or (keys ss) i 0)
+    → MatchOption (find (λ (s : Slot Mark). is_insertion s.element) (reverse ss)) (inserter (marks ss) ≡ 0) (λ t. (inserter (marks ss) ≡ t.key) × (low ≤ t.key))
 unfolding inserter
-is_inserter (Insert i) n ms j is none = omega arith
-is_inserter (Delete i) n ms j is none = let z : ◌≡◌ {A = ℕ} 0 1 = cc in absurd (omega arith)
-
-pub no_inserter : (e : Mark) (n : ℕ) (ms : List weave.Mark) → ((j : ℕ) → e ≡ Insert j → ⊥) → inserter (kind e n ∷ ms) ≡ inserter ms
-unfolding inserter
-no_inserter (Insert i) n ms not = absurd (not i refl)
-no_inserter (Delete i) n ms not = refl
-
--- the key at a place is above those before it
-first_below : (s : Slot Mark) (ss : List (Slot Mark)) (i : ℕ) (d : Slot Mark) → Rising (keys (s ∷ ss)) → i < length ss → s.key < (get_or ss i d).key
-first_below s ss i d up h =
+newest [] low up above = refl
+newest (s ∷ ss) low up above =
     let n = length-map ss (λ (t : Slot Mark). t.key) in
-    let above : s.key < get_or (keys ss) i 0 = up 0 (suc i) (omega arith) (omega arith) in
-    let is : get_or (keys ss) i 0 ≡ (get_or ss i d).key = get_or-map (λ (t : Slot Mark). t.key) ss i d 0 h in
-    omega arith
+    let rest = newest ss (suc s.key) (tail_rises _ _ up) (λ i h. up 0 (suc i) (omega arith) (omega arith)) in
+    let back : reverse (s ∷ ss) ≡ reverse ss ++ s ∷ [] = reverse-append (s ∷ []) ss in
+    rw (back, find-append) (newest_more s.element s.key s (find (λ (t : Slot Mark). is_insertion t.element) (reverse ss)) low (marks ss) refl (above 0 (omega arith)) rest)
 
--- the last insertion is the greatest
-pub inserter_found : (ss : List (Slot Mark)) (i : ℕ) (d : Slot Mark) → Rising (keys ss) → i < length ss
-    → inserter (mark_of (get_or ss i d) ∷ marks (drop (suc i) ss)) ≡ (get_or ss i d).key → inserter (marks ss) ≡ (get_or ss i d).key
-inserter_found [] i d up h is = absurd (omega arith)
-inserter_found (s ∷ ss) zero d up h is = is
-inserter_found (s ∷ ss) (suc i) d up h is =
-    let rest = inserter_found ss i d (tail_rises _ _ up) (omega arith) is in
-    let low = first_below s ss i d up (omega arith) in
-    below_inserter s.element s.key (marks ss) (omega arith) ∙ rest
+abbrev pub number_at : Option (Slot Mark) → ℕ
+number_at o = unwrap_or (option_map (λ s. s.key) o) 0
 
-module _ (s : Serials) (low : ℕ) where
-  low_hides_nothing : (e : Mark) (n : ℕ) (ms : List weave.Mark) → n ≤ low → deleted_above s low (kind e n ∷ ms) ≡ deleted_above s low ms
+pub number_of_found : (o : Option (Bor (Slot Mark))) (n : ℕ) → MatchOption o (n ≡ 0) (λ s. n ≡ s.now.key) → n ≡ number_at (option_map (λ s. s.now) o)
+number_of_found None n is = is
+number_of_found (Some s) n is = is
+
+number_is : (o : Option (Slot Mark)) (n : ℕ) → MatchOption o (n ≡ 0) (λ t. (n ≡ t.key) × (0 ≤ t.key)) → number_at o ≡ n
+number_is None n is = sym is
+number_is (Some t) n is = sym is.0
+
+pub greatest : (ss : List (Slot Mark)) → Rising (keys ss) → number_at (find (λ s. is_insertion s.element) (reverse ss)) ≡ inserter (marks ss)
+greatest ss up = number_is _ (inserter (marks ss)) (newest ss 0 up (λ i h. omega arith))
+
+-- what is taken while a test passes
+last_left : {X : Type 0} (p : X → Bool) (xs : List X) (x : X) → p x ≡ false → take_while p (xs ++ x ∷ []) ≡ take_while p xs
+last_left p [] x fails = take_while-cons p x [] ∙ cond-false _ _ _ fails
+last_left p (y ∷ ys) x fails = take_while-cons p y (ys ++ x ∷ []) ∙ ap (λ zs. cond (p y) (y ∷ zs) []) (last_left p ys x fails) ∙ sym (take_while-cons p y ys)
+
+all_taken : {X : Type 0} (p : X → Bool) (xs : List X) → All (λ x. p x ≡ true) xs → take_while p xs ≡ xs
+all_taken p [] pass = refl
+all_taken p (x ∷ xs) pass = take_while-cons p x xs ∙ cond-true (p x) _ [] (All-head (λ y. p y ≡ true) x xs pass) ∙ ap (λ zs. x ∷ zs) (all_taken p xs (All-tail (λ y. p y ≡ true) x xs pass))
+
+-- the deletions above `low`, from the last slot down
+module _ (has : Serials) (low : ℕ) where
+  low_hides_nothing : (e : Mark) (n : ℕ) (ms : List weave.Mark) → n ≤ low → deleted_above has low (kind e n ∷ ms) ≡ deleted_above has low ms
   unfolding deleted_above
-  low_hides_nothing (Insert j) n ms Under-low = refl
-  low_hides_nothing (Delete j) n ms Under-low = rw (le-ltb low n Under-low)
+  low_hides_nothing (Insert j) n ms is_low = refl
+  low_hides_nothing (Delete j) n ms is_low = rw (le-ltb low n is_low)
 
-  pub insert_hides_nothing : (e : Mark) (n : ℕ) (ms : List weave.Mark) → ((j : ℕ) → e ≡ Delete j → ⊥) → deleted_above s low (kind e n ∷ ms) ≡ deleted_above s low ms
+  abbrev pub hides : Slot Mark → Bool
+  hides s = is_deletion s.element && has s.key
+
+  hides_more : (e : Mark) (n : ℕ) (ms : List weave.Mark) → low < n → deleted_above has low (kind e n ∷ ms) ≡ ((is_deletion e && has n) || deleted_above has low ms)
   unfolding deleted_above
-  insert_hides_nothing (Insert j) n ms not = refl
-  insert_hides_nothing (Delete j) n ms not = absurd (not j refl)
+  hides_more (Insert j) n ms above = refl
+  hides_more (Delete j) n ms above = rw (lt-ltb low n above)
 
-  pub absent_hides_nothing : (e : Mark) (n : ℕ) (ms : List weave.Mark) → s n ≡ false → deleted_above s low (kind e n ∷ ms) ≡ deleted_above s low ms
+  all_above : (ss : List (Slot Mark)) → ((i : ℕ) → i < length ss → low < get_or (keys ss) i 0) → list_any hides ss ≡ deleted_above has low (marks ss)
   unfolding deleted_above
-  absent_hides_nothing (Insert j) n ms out = refl
-  absent_hides_nothing (Delete j) n ms out = rw out (and_nothing (ltb low n) (deleted_above s low ms))
+  all_above [] above = refl
+  all_above (s ∷ ss) above = ap (λ b. hides s || b) (all_above ss (λ i h. above (suc i) (omega arith))) ∙ sym (hides_more s.element s.key (marks ss) (above 0 (omega arith)))
 
-  pub hides : (e : Mark) (n : ℕ) (ms : List weave.Mark) (j : ℕ) → e ≡ Delete j → low < n → s n ≡ true → deleted_above s low (kind e n ∷ ms) ≡ true
+  pub hidden_above : (ss : List (Slot Mark)) → Rising (keys ss) → list_any hides (take_while (λ s. ltb low s.key) (reverse ss)) ≡ deleted_above has low (marks ss)
   unfolding deleted_above
-  hides (Insert i) n ms j is above has = let z : ◌≡◌ {A = ℕ} 0 1 = cc in absurd (omega arith)
-  hides (Delete i) n ms j is above has = rw (has, lt-ltb low n above)
-
-  hides_still : (e : Mark) (n : ℕ) (ms : List weave.Mark) → deleted_above s low ms ≡ true → deleted_above s low (kind e n ∷ ms) ≡ true
-  unfolding deleted_above
-  hides_still (Insert i) n ms has = has
-  hides_still (Delete i) n ms has = or_right _ _ has
-
-  pub hidden : (ss : List (Slot Mark)) (i : ℕ) (d : Slot Mark) → i < length ss
-      → deleted_above s low (mark_of (get_or ss i d) ∷ marks (drop (suc i) ss)) ≡ true → deleted_above s low (marks ss) ≡ true
-  hidden [] i d h is = absurd (omega arith)
-  hidden (t ∷ ts) zero d h is = is
-  hidden (t ∷ ts) (suc i) d h is = hides_still t.element t.key (marks ts) (hidden ts i d (omega arith) is)
-
-  pub not_hidden : (ss : List (Slot Mark)) (i : ℕ) (d : Slot Mark) → Rising (keys ss) → i < length ss
-      → (get_or ss i d).key ≤ low → deleted_above s low (marks (drop (suc i) ss)) ≡ false → deleted_above s low (marks ss) ≡ false
-  not_hidden [] i d up h Under-low none = absurd (omega arith)
-  not_hidden (t ∷ ts) zero d up h Under-low none = low_hides_nothing t.element t.key (marks ts) Under-low ∙ none
-  not_hidden (t ∷ ts) (suc i) d up h Under-low none =
-      let below = first_below t ts i d up (omega arith) in
-      low_hides_nothing t.element t.key (marks ts) (omega arith) ∙ not_hidden ts i d (tail_rises _ _ up) (omega arith) Under-low none
+  hidden_above [] up = refl
+  hidden_above (s ∷ ss) up =
+      let n = length-map ss (λ (t : Slot Mark). t.key) in
+      ⊎_elim
+      (λ (above : low < s.key).
+      let all : (i : ℕ) → i < length (s ∷ ss) → low < get_or (keys (s ∷ ss)) i 0 = λ i h. grind (arith, up 0 i) in
+      let pass : All (λ (t : Slot Mark). ltb low t.key ≡ true) (s ∷ ss) =
+      All-from_get_or (λ (t : Slot Mark). ltb low t.key ≡ true) (s ∷ ss) s (λ i h. lt-ltb low (get_or (s ∷ ss) i s).key (let is = get_or-map (λ (t : Slot Mark). t.key) (s ∷ ss) i s 0 h in omega (arith, all i h))) in
+      ap (list_any hides) (all_taken (λ t. ltb low t.key) (reverse (s ∷ ss)) (All-permutation (λ (t : Slot Mark). ltb low t.key ≡ true) _ _ (IsPermutation-reverse (s ∷ ss)) pass))
+      ∙ sym (list_any-IsPermutation hides (s ∷ ss) (reverse (s ∷ ss)) (IsPermutation-reverse (s ∷ ss))) ∙ all_above (s ∷ ss) all)
+      (λ (is_low : s.key ≤ low).
+      let back : reverse (s ∷ ss) ≡ reverse ss ++ s ∷ [] = reverse-append (s ∷ []) ss in
+      ap (λ ts. list_any hides (take_while (λ t. ltb low t.key) ts)) back ∙ ap (list_any hides) (last_left (λ t. ltb low t.key) (reverse ss) s (le-ltb low s.key is_low))
+      ∙ hidden_above ss (tail_rises _ _ up) ∙ sym (low_hides_nothing s.element s.key (marks ss) is_low))
+      (cases_lt low s.key)
 
 -- the serials stay from 1 to `top`
+abbrev Within : ℕ → weave.Mark → Type 0
+Within top m = (1 ≤ serial m) × (serial m ≤ top)
+
 pub bounded_with : (top : ℕ) (m : weave.Mark) (ms : List weave.Mark) → 1 ≤ serial m → serial m ≤ top → Bounded top ms → Bounded top (with_mark m ms)
 unfolding with_mark
-bounded_with top m [] low high b = ((low, high), tt)
+bounded_with top m [] low high b = All-cons (Within top) m [] (low, high) b
 bounded_with top m (k ∷ ks) low high b =
-    cond_both (ltb (serial k) (serial m)) _ _ (Bounded top) (λ _. (b.0, bounded_with top m ks low high b.1)) (λ _. ((low, high), b))
+    cond_both (ltb (serial k) (serial m)) _ _ (Bounded top) (λ _. All-cons (Within top) k _ (All-head (Within top) k ks b) (bounded_with top m ks low high (All-tail (Within top) k ks b))) (λ _. All-cons (Within top) m (k ∷ ks) (low, high) b)
 
 pub bounded_closed : (top n : ℕ) (ms : List weave.Mark) → Bounded top ms → Bounded top (closed n ms)
 unfolding closed
-bounded_closed top n [] b = tt
-bounded_closed top n (m ∷ ms) b = cond_both (eqb (serial m) n) _ _ (Bounded top) (λ _. b.1) (λ _. (b.0, bounded_closed top n ms b.1))
+bounded_closed top n [] b = b
+bounded_closed top n (m ∷ ms) b =
+    cond_both (eqb (serial m) n) _ _ (Bounded top) (λ _. All-tail (Within top) m ms b) (λ _. All-cons (Within top) m _ (All-head (Within top) m ms b) (bounded_closed top n ms (All-tail (Within top) m ms b)))
 
 bounded_at : (top : ℕ) (ss : List (Slot Mark)) → Bounded top (marks ss) → (i : ℕ) → i < length (keys ss) → (1 ≤ get_or (keys ss) i 0) × (get_or (keys ss) i 0 ≤ top)
 bounded_at top [] b i h = absurd (omega arith)
-bounded_at top (t ∷ ts) b zero h = let is = serial_is t.element t.key in (omega (arith, b.0.0), omega (arith, b.0.1))
-bounded_at top (t ∷ ts) b (suc i) h = bounded_at top ts b.1 i (omega arith)
+bounded_at top (t ∷ ts) b zero h = let is = serial_is t.element t.key in let own = All-head (Within top) (mark_of t) (marks ts) b in (omega (arith, own.0), omega (arith, own.1))
+bounded_at top (t ∷ ts) b (suc i) h = bounded_at top ts (All-tail (Within top) (mark_of t) (marks ts) b) i (omega arith)
 
 -- so they are few
 pub bounded_few : (top : ℕ) (ss : List (Slot Mark)) → Rising (keys ss) → Bounded top (marks ss) → length ss ≤ top
@@ -198,42 +210,6 @@ bounded_few top ss up b =
     let n = length-map ss (λ (t : Slot Mark). t.key) in
     let few = rising_few (keys ss) top up (bounded_at top ss b) in
     omega arith
-
--- a walk from the last slot down: `s` is the slot at the place before `at`
-module _ (ss : List (Slot Mark)) (at : ℕ) (s : Slot Mark) (some : 0 < at) (inside : at ≤ length ss) (here : s ≡ get_or ss (at - 1) s) where
-  pub step_back : {X : Type 0} (F : List weave.Mark → X) → F (marks (drop (at - 1) ss)) ≡ F (mark_of s ∷ marks (drop at ss))
-  step_back F =
-      let back : at - 1 + 1 ≡ at = omega arith in
-      at_drop_more (λ ts. F (marks ts)) ss (at - 1) s (omega arith) ∙ ap (λ t. F (mark_of t ∷ marks (drop (at - 1 + 1) ss))) (sym here) ∙ ap (λ i. F (mark_of s ∷ marks (drop i ss))) back
-
-  next_is : suc (at - 1) ≡ at
-  next_is = omega arith
-
-  pub inserter_back : (j : ℕ) → Rising (keys ss) → s.element ≡ Insert j → inserter (marks (drop at ss)) ≡ 0 → s.key ≡ inserter (marks ss)
-  inserter_back j up is none =
-      let first = is_inserter s.element s.key (marks (drop at ss)) j is none in
-      let found = inserter_found ss (at - 1) s up (omega arith) in
-      sym (found (ap (λ t. inserter (mark_of t ∷ marks (drop (suc (at - 1)) ss))) (sym here) ∙ ap (λ i. inserter (mark_of s ∷ marks (drop i ss))) next_is ∙ first ∙ ap (λ t. t.key) here) ∙ ap (λ t. t.key) (sym here))
-
-  pub hidden_back : (t : Serials) (low j : ℕ) → s.element ≡ Delete j → low < s.key → t s.key ≡ true → true ≡ deleted_above t low (marks ss)
-  hidden_back t low j is above has =
-      sym (hidden t low ss (at - 1) s (omega arith)
-      (ap (λ u. deleted_above t low (mark_of u ∷ marks (drop (suc (at - 1)) ss))) (sym here) ∙ hides t low s.element s.key (marks (drop (suc (at - 1)) ss)) j is above has))
-
-  pub shown_back : (t : Serials) (low : ℕ) → Rising (keys ss) → s.key ≤ low → deleted_above t low (marks (drop at ss)) ≡ false → false ≡ deleted_above t low (marks ss)
-  shown_back t low up Under-low none =
-      let same : (get_or ss (at - 1) s).key ≡ s.key = ap (λ u. u.key) (sym here) in
-      sym (not_hidden t low ss (at - 1) s up (omega arith) (omega arith) (ap (λ i. deleted_above t low (marks (drop i ss))) next_is ∙ none))
-
--- what is visible, by the two questions
-module _ (s : Serials) (ms : List weave.Mark) (n : ℕ) (is : n ≡ inserter ms) where
-  pub visible_in : (d : Bool) → true ≡ s n → d ≡ deleted_above s n ms → not d ≡ visible s ms
-  unfolding visible
-  visible_in d has deletes = rw (sym is, sym has, sym deletes)
-
-  pub visible_out : false ≡ s n → false ≡ visible s ms
-  unfolding visible
-  visible_out out = rw (sym is, sym out)
 
 -- what an allowed record leaves
 module _ (q : Queue Mark) (top : ℕ) (bounded : Bounded top (open_marks q)) (fits : top < room q) where

@@ -6,4 +6,3 @@ pub mod VersionSteps
 pub mod Held
 pub mod Walks
 pub mod Writes
-pub mod Hands

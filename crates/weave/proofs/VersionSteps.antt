@@ -1,8 +1,10 @@
 -- One serial down in the making of a version's set.
-use Rattle.std.proofs.Common.{◌≡◌, ℕ, ◌+◌, Bool, true, false, cond, not, ◌&&◌, ◌||◌, eqb, List, ◌∷◌, length, Some, None, sym, refl, ap, ◌∙◌, ⊎_elim, arith}
+use Rattle.std.proofs.Common.{◌≡◌, ℕ, ◌+◌, Bool, true, false, cond, not, ◌&&◌, ◌||◌, eqb, List, [], ◌∷◌, length, Some, None, sym, refl, ap, ◌∙◌, ⊎_elim, arith}
 use mathlib.Core.Path.{fun_ext}
 use Rattle.std.proofs.lemmas.Bool.{cond-true, cond-false, cases_eq, eq-eqb, ne_eqb}
 use Rattle.sets.specs.Bits.{Serials}
+use Rattle.head.specs.declared.table.Entry.{Entry}
+use Rattle.weave.specs.Tables.{deltas}
 use Rattle.weave.specs.Versions.{Lists, Delta, Marked, marks, or_else, marked_or, members}
 use Rattle.weave.proofs.OnlySet.{none_beyond}
 
@@ -71,6 +73,12 @@ module _ (s : Serials) (e : Delta) (es : List Delta) (v : ℕ) (m : Marked) (n v
       (λ (apart : k ≡ n → ⊥). cond-false _ _ _ (ne_eqb k n apart))
       (cases_eq k n))
 
-pub or_none : (b : Bool) → (b || false) ≡ b
+or_none : (b : Bool) → (b || false) ≡ b
 or_none true = refl
 or_none false = refl
+
+-- nothing is left of the table
+pub none_left : (es : List Entry) (v : ℕ) (m : Marked) (k : ℕ) (b : Bool) → length es ≡ 0 → (b || members (deltas es) v m k) ≡ b
+unfolding members
+none_left [] v m k b none = or_none b
+none_left (e ∷ es) v m k b none = absurd (omega arith)

@@ -1,18 +1,12 @@
 -- The steps of a writer.
-use Rattle.std.proofs.Common.{◌≡◌, ℕ, ◌+◌, ◌<◌, ◌≤◌, Bool, true, false, cond, List, [], ◌∷◌, ◌++◌, length, get_or, take, drop, Some, None, Option, sym, refl, ap, ◌∙◌, arith}
+use Rattle.std.proofs.Common.{◌≡◌, ℕ, ◌+◌, ◌<◌, ◌≤◌, List, [], ◌∷◌, ◌++◌, length, take, drop, sym, ap, ◌∙◌, arith}
 use Rattle.std.proofs.lemmas.Bool.{lt-leb}
-use Rattle.std.proofs.lemmas.List.{at_drop_more, at_drop_all, append_assoc, append-nil, length-append, length-take-le, take_at, drop_at, drop-drop, length-drop, take-append-drop}
+use Rattle.std.proofs.lemmas.List.{append_assoc, length-append, length-take-le, take_at, drop_at, drop-drop, length-drop}
 use Rattle.lines.specs.declared.fault.Cause.TheVariants.{BufferTooSmall}
 use Rattle.lines.specs.Faults.{accepted, plain}
-use Rattle.lines.specs.Lines.{Line, fronted}
+use Rattle.lines.specs.Lines.{Line}
 use Rattle.lines.proofs.LineLaws.{check_passes}
 use Rattle.whole.specs.Whole.{row_at, row_refusal, text_of}
-use Rattle.sets.specs.Bits.{Serials}
-use Rattle.records.specs.BodyRecords.{Mark, Record, record_of, body}
-use Rattle.weave.specs.Marks.{then_open, shown}
-use Rattle.weave.specs.Rules.{allowed, breach}
-use Rattle.weave.specs.Handing.{seen, breach_refusal, body_refusal}
-use Rattle.weave.proofs.Walks.{before, shown_more}
 
 -- the front of `out` and the lines that are left make up `all`, and beyond `at` the bytes are as they were
 pub record Written (all was out : List ℕ) (at : ℕ) (left : List Line) : Type 0 where
@@ -48,48 +42,3 @@ written_more all was out new at l left w is =
       front = ap (λ xs. xs ++ text_of left) (ap (take n) split ∙ take_at front tail n long) ∙ sym (joined (text_of left)) ∙ w.front;
       rest = ap (drop n) split ∙ drop_at front tail n long ∙ sym (past out) ∙ ap (drop (length l + 1)) w.rest ∙ past was;
     }
-
-pub written_as : {all was : List ℕ} (out new : List ℕ) (at to : ℕ) (left rest : List Line) → new ≡ out → to ≡ at → rest ≡ left → Written all was out at left → Written all was new to rest
-written_as out new at to left rest is here same w = record {
-  fits = rw (is, here, same) w.fits;
-  front = rw (is, here, same) w.front;
-  rest = rw (is, here) w.rest;
-}
-
-pub written_all : (was out : List ℕ) (at : ℕ) (ls : List Line) → Written (text_of ls) was out at [] → out ≡ fronted (text_of ls) was
-written_all was out at ls w =
-    let fits = w.fits in
-    let front : take at out ≡ text_of ls = sym (append-nil (take at out)) ∙ w.front in
-    let a = length-take-le at out (omega arith) in
-    let here : at ≡ length (text_of ls) = sym a ∙ ap length front in
-    sym (take-append-drop at out) ∙ ap (λ xs. xs ++ drop at out) front ∙ ap (λ ys. text_of ls ++ ys) (w.rest ∙ ap (λ k. drop k was) here)
-
-no_breach : (b : Option ℕ) → breach_refusal b ≡ None → b ≡ None
-no_breach None none = refl
-no_breach (Some p) none = let z : ◌≡◌ {A = ℕ} 0 1 = cc in absurd (omega arith)
-
-pub is_valid : (top head : ℕ) (ls : List Line) → body_refusal top head ls ≡ None → breach top [] (head + 1) (body top (drop head ls)) ≡ None
-is_valid top head ls none = no_breach (breach top [] (head + 1) (body top (drop head ls))) none
-
-passed : (b : Bool) (o : Option ℕ) (p : ℕ) → cond b o (Some p) ≡ None → (b ≡ true) × (o ≡ None)
-passed true o p none = (refl, none)
-passed false o p none = (cc, cc)
-
-goes : (top : ℕ) (ms : List Mark) (p : ℕ) (r : Record) (rs : List Record) → breach top ms p (r ∷ rs) ≡ None → (allowed top ms r ≡ true) × (breach top (then_open ms r) (p + 1) rs ≡ None)
-unfolding breach
-goes top ms p r rs none = passed (allowed top ms r) (breach top (then_open ms r) (p + 1) rs) p none
-
-module _ (s : Serials) (top : ℕ) (ms : List Mark) (p : ℕ) (ls : List Line) (i : ℕ) (inside : i < length ls) (r : Record) (is : r ≡ record_of top (get_or ls i [])) where
-  pub valid_here : breach top ms p (body top (drop i ls)) ≡ None → (allowed top ms r ≡ true) × (breach top (then_open ms r) (p + 1) (body top (drop (i + 1) ls)) ≡ None)
-  valid_here none =
-      goes top ms p r (body top (drop (i + 1) ls))
-      (ap (λ q. breach top ms p (q ∷ body top (drop (i + 1) ls))) is ∙ sym (at_drop_more (λ xs. breach top ms p (body top xs)) ls i [] inside) ∙ none)
-
-  pub shown_here : (o : Option Line) → seen s ms r ≡ o → shown s ms (body top (drop i ls)) ≡ before o (shown s (then_open ms r) (body top (drop (i + 1) ls)))
-  shown_here o sees =
-      let rs = body top (drop (i + 1) ls) in
-      at_drop_more (λ xs. shown s ms (body top xs)) ls i [] inside ∙ ap (λ q. shown s ms (q ∷ rs)) (sym is) ∙ shown_more s ms r rs ∙ ap (λ q. before q (shown s (then_open ms r) rs)) sees
-
-pub shown_past : (s : Serials) (top : ℕ) (ms : List Mark) (ls : List Line) (i : ℕ) → length ls ≤ i → shown s ms (body top (drop i ls)) ≡ []
-unfolding shown
-shown_past s top ms ls i past = at_drop_all (λ xs. shown s ms (body top xs)) ls i past

@@ -7,3 +7,4 @@ pub mod Tables
 pub mod Open
 pub mod Handing
 pub mod Known
+pub mod Coming

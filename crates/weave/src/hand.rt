@@ -4,31 +4,19 @@ ghost use Rattle.lines.specs.Lines.{fronted};
 ghost use Rattle.whole.specs.Whole.{text_of};
 ghost use Rattle.weave.specs.Handing.{body_refusal, shown_of, measure_of, chosen_set, hand_refusal};
 
-use crate::mark::Mark;
 use crate::measure::Measure;
 use crate::walk::walk;
 use crate::write::write;
 use lines::fault::{Cause, Fault};
 use lines::source::LineSource;
-use queue::{Queue, Slot};
 use sets::SerialSet;
 
-// So many slots have room for the marks of all serials that a byte can hold.
-const SLOTS: usize = 256;
-
-const FREE: Slot<Mark> = Slot {
-    key: 0,
-    element: Mark::Insert(0),
-};
-
-// Checks the rules of the body that stands after `head` lines; `top` is the greatest serial.
+// Checks the rules of the body that stands after `head` lines; `top` is the greatest serial. (No struct of the three: a
+// caller has them from three places, and would build it for one call.)
 pub fn check_body<S: LineSource>(source: &S, head: usize, top: u8) -> Result<(), Fault>
     ensures { result ≡ verdict (body_refusal top head (S.LineSource.lines source.now)) tt }
 {
-    let mut slots = [FREE; SLOTS];
-    let mut marks = Queue::new(&mut slots);
-    let from = head.min(source.count());
-    walk(source, from, SerialSet::empty(), top, &mut marks)?;
+    walk(source, head, SerialSet::empty(), top)?;
     Ok(())
 }
 
@@ -44,15 +32,12 @@ pub fn hand_out<S: LineSource>(
     ensures answer { result ≡ verdict (hand_refusal top head (S.LineSource.lines source.now) chosen (length out.old)) (measure_of (shown_of top (chosen_set chosen) head (S.LineSource.lines source.now))) }
     ensures bytes { out.new ≡ left (hand_refusal top head (S.LineSource.lines source.now) chosen (length out.old)) (fronted (text_of (shown_of top (chosen_set chosen) head (S.LineSource.lines source.now))) out.old) out.old }
 {
-    let mut slots = [FREE; SLOTS];
-    let mut marks = Queue::new(&mut slots);
-    let from = head.min(source.count());
     let set = chosen.unwrap_or(SerialSet::empty());
-    let measure = walk(source, from, set, top, &mut marks)?;
+    let measure = walk(source, head, set, top)?;
     chosen?;
     if measure.bytes > out.len() {
         return Err(Fault::plain(Cause::BufferTooSmall));
     }
-    write(source, from, set, top, &mut marks, out)?;
+    write(source, head, set, top, out)?;
     Ok(measure)
 }

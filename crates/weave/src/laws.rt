@@ -3,22 +3,16 @@ ghost use Rattle.weave.specs.Places.{ShownByPlaces};
 ghost use Rattle.weave.specs.Relation.{TheOnlySet};
 
 // What a set shows, said by places in the body.
-pub fn shown_by_places() -> bool
+pub fn shown_by_places()
     ensures { ShownByPlaces }
-{
-    true
-}
+{}
 
 // The set of a version, said as a relation that has one solution.
-pub fn the_only_set() -> bool
+pub fn the_only_set()
     ensures { TheOnlySet }
-{
-    true
-}
+{}
 
 // Known bodies and tables, and what comes of them.
-pub fn known_tables() -> bool
+pub fn known_tables()
     ensures { Known }
-{
-    true
-}
+{}

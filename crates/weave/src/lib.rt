@@ -3,8 +3,9 @@
 pub mod hand;
 pub mod laws;
 mod mark;
+mod marks;
 pub mod measure;
-mod rules;
+mod shown;
 pub mod version;
 mod walk;
 mod write;

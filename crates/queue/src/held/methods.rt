@@ -25,6 +25,7 @@ impl<'a, E> Queue<'a, E> {
     }
 
     // Whether a slot has this key.
+    #[tactic(auto, using(crate::proofs::Placed::told))]
     pub fn holds(&self, key: u64) -> bool
         ensures { result ≡ holds key (items self.now) }
     {
@@ -73,6 +74,7 @@ impl<'a, E: Copy> Queue<'a, E> {
 
 impl<'a, E: Keyed + Copy> Queue<'a, E> {
     // Puts the element in at its place, unless its key is held or no slot is free.
+    #[tactic(auto, using(crate::proofs::Placed::told))]
     pub fn insert(&mut self, element: E) -> Result<(), Unstored>
         ensures answer { result ≡ answer (room self.old) (E.Keyed.number element) (items self.old) }
         ensures after { items self.new ≡ after (room self.old) (record { key = E.Keyed.number element; element = element }) (items self.old) }

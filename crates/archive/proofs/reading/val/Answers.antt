@@ -4,9 +4,8 @@ use Rattle.lines.specs.Faults.{Refusal, verdict}
 use Rattle.head.specs.Heads.{Outcome}
 use Rattle.head.specs.Tables.{entries}
 use Rattle.weave.specs.Handing.{body_refusal}
-use Rattle.weave.proofs.Hands.{refused, passed}
 use Rattle.archive.specs.Reading.{head_of, val_answer}
-use Rattle.archive.proofs.Answers.{read_ok}
+use Rattle.archive.proofs.Answers.{refused, passed, read_ok}
 use Rattle.archive.proofs.reading.val.Goals as goal
 
 pub returns-in_err-check_body : goal.returns-in_err-check_body

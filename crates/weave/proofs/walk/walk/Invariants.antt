@@ -1,17 +1,16 @@
-use Rattle.std.proofs.Common.{◌≡◌, ◌+◌, ◌*◌, ◌≤◌, [], length, drop}
-use Rattle.queue.specs.Items.{room}
-use Rattle.records.specs.BodyRecords.{body}
+use Rattle.std.proofs.Common.{◌≡◌, ◌+◌, ◌*◌, ◌≤◌, length}
 use Rattle.sets.specs.Serials.{serials}
-use Rattle.weave.specs.Open.{open_marks, Bounded}
-use Rattle.weave.proofs.Walks.{outcome}
+use Rattle.weave.specs.Coming.{to_come}
+use Rattle.weave.specs.Handing.{body_refusal, measure_of, shown_of}
+use Rattle.lines.specs.Faults.{verdict}
+use Rattle.weave.proofs.Walks.{tally, weight}
 use Rattle.weave.proofs.walk.walk.Given as goal
 
-abbrev pub invariant-loop-i : goal.invariant-loop-i
-invariant-loop-i g l =
-    (length l.buf ≡ 240)
-    × (room l.marks ≡ room l.initial.marks)
-    × Bounded l.top (open_marks l.marks)
-    × (l.lines ≤ l.i)
-    × (l.bytes ≤ 241 * l.i)
-    × (outcome (serials l.set) l.top (open_marks l.marks) (l.i + 1) l.lines l.bytes (body l.top (drop l.i (g.S.LineSource.lines l.source)))
-    ≡ outcome (serials l.set) l.top [] (l.head + 1) 0 0 (body l.top (drop l.head (g.S.LineSource.lines l.source))))
+abbrev pub invariant-loop-line : goal.invariant-loop-line
+invariant-loop-line g l =
+    let items = to_come (g.S.LineSource.lines l.line-iterator.source.now) l.line-iterator.set l.line-iterator.marks l.line-iterator.place in
+    record {
+      same : tally l.measure.lines l.measure.bytes items ≡ verdict (body_refusal l.top l.head (g.S.LineSource.lines l.source)) (measure_of (shown_of l.top (serials l.fn.set) l.head (g.S.LineSource.lines l.source)));
+      few : l.measure.lines + length items ≤ 4001;
+      small : l.measure.bytes + weight items ≤ 241 * 4000;
+    }

@@ -1,20 +1,16 @@
-use Rattle.std.proofs.Common.{◌≡◌, ◌+◌, ◌<◌, length, drop, None}
-use Rattle.queue.specs.Items.{room}
-use Rattle.weave.specs.Marks.{shown}
-use Rattle.weave.specs.Rules.{breach}
+use Rattle.std.proofs.Common.{◌≡◌, true}
 use Rattle.whole.specs.Whole.{text_of}
-use Rattle.records.specs.BodyRecords.{body}
 use Rattle.sets.specs.Serials.{serials}
-use Rattle.weave.specs.Open.{open_marks, Bounded}
+use Rattle.weave.specs.Coming.{to_come}
 use Rattle.weave.specs.Handing.{shown_of}
+use Rattle.weave.proofs.Walks.{sound, lines_of}
 use Rattle.weave.proofs.Writes.{Written}
 use Rattle.weave.proofs.write.write.Given as goal
 
-abbrev pub invariant-loop-i : goal.invariant-loop-i
-invariant-loop-i g l =
-    (length l.buf ≡ 240)
-    × (l.top < room l.marks)
-    × Bounded l.top (open_marks l.marks)
-    × (breach l.top (open_marks l.marks) (l.i + 1) (body l.top (drop l.i (g.S.LineSource.lines l.source))) ≡ None)
-    × Written (text_of (shown_of l.top (serials l.set) l.head (g.S.LineSource.lines l.source))) l.initial.out l.out l.at
-    (shown (serials l.set) (open_marks l.marks) (body l.top (drop l.i (g.S.LineSource.lines l.source))))
+abbrev pub invariant-loop-line : goal.invariant-loop-line
+invariant-loop-line g l =
+    let items = to_come (g.S.LineSource.lines l.line-iterator.source.now) l.line-iterator.set l.line-iterator.marks l.line-iterator.place in
+    record {
+      clean : sound items ≡ true;
+      done : Written (text_of (shown_of l.top (serials l.fn.set) l.head (g.S.LineSource.lines l.source))) l.initial.out l.out l.at (lines_of items);
+    }

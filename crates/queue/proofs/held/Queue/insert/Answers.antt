@@ -1,29 +1,22 @@
-use Rattle.std.proofs.Common.{◌≡◌, ℕ, ◌+◌, ◌-◌, false, length, length-set, Ok, sym, ap, ◌∙◌, arith}
+use Rattle.std.proofs.Common.{◌≡◌, ℕ, ◌+◌, ◌-◌, false, List, length, length-set, sym, ap, ◌∙◌, arith}
 use Rattle.std.proofs.lemmas.Bool.{cond-true, cond-false, eq-eqb, ne_eqb}
 use Rattle.std.proofs.lemmas.List.{take-set, length-take-le}
 use Rattle.std.proofs.lemmas.List.Edits.{length-insert}
 use Rattle.queue.specs.Items.{items, room}
 use Rattle.queue.specs.Slots.{FitsAt, holds, with_slot}
 use Rattle.queue.specs.declared.slots.Slot.{Slot}
-use Rattle.queue.proofs.Placed.{told, free, with_slot_at, rises_with}
+use Rattle.queue.proofs.Placed.{free, with_slot_at, rises_with}
 use Rattle.queue.proofs.Turns.{fits_from_front, turned_in}
 use Rattle.queue.proofs.held.Queue.insert.Goals as goal
 
-pub returns-in_default-clause-answer : goal.returns-in_default-clause-answer
-returns-in_default-clause-answer g c =
-    let ss = items c.args.self.now in
-    sym (cond-true _ _ _ (ap (λ j. holds j ss) (sym c.key-key.ensures) ∙ sym (told c.key-key.result ss c.args.self.now.rising (Ok c.in_default.field-0) c.in_default.ensures)))
-
-pub returns-in_default-clause-after : goal.returns-in_default-clause-after
-returns-in_default-clause-after g c =
-    let ss = items c.args.self.now in
-    sym (cond-true _ _ _ (ap (λ j. holds j ss) (sym c.key-key.ensures) ∙ sym (told c.key-key.result ss c.args.self.now.rising (Ok c.in_default.field-0) c.in_default.ensures)))
+absent_as : {E : Type 0} (k n : ℕ) (ss : List (Slot E)) (at : ℕ) → k ≡ n → FitsAt k ss at → holds n ss ≡ false
+absent_as k n ss at same fits = ap (λ j. holds j ss) (sym same) ∙ (free k ss at fits).holds
 
 pub returns-then-self-clause-answer : goal.returns-then-self-clause-answer
 returns-then-self-clause-answer g c =
     let q = c.args.self.now in
     let n = length-take-le q.len q.slots.now q.fits in
-    let absent : holds (g.E.Keyed.number c.args.element) (items q) ≡ false = ap (λ j. holds j (items q)) (sym c.key-key.ensures) ∙ (free c.key-key.result (items q) c.in-Err.at c.in-Err.ensures).holds in
+    let absent = absent_as c.key-key.result (g.E.Keyed.number c.args.element) (items q) c.in-Err.at c.key-key.ensures c.in-Err.ensures in
     sym (cond-false _ _ _ absent ∙ cond-true _ _ _ (eq-eqb (length (items q)) (room q) (omega arith)))
 
 pub invariant_of-self : goal.invariant_of-self
@@ -44,7 +37,7 @@ pub returns-clause-answer : goal.returns-clause-answer
 returns-clause-answer g c =
     let q = c.args.self.now in
     let n = length-take-le q.len q.slots.now q.fits in
-    let absent : holds (g.E.Keyed.number c.args.element) (items q) ≡ false = ap (λ j. holds j (items q)) (sym c.key-key.ensures) ∙ (free c.key-key.result (items q) c.in-Err.at c.in-Err.ensures).holds in
+    let absent = absent_as c.key-key.result (g.E.Keyed.number c.args.element) (items q) c.in-Err.at c.key-key.ensures c.in-Err.ensures in
     sym (cond-false _ _ _ absent ∙ cond-false _ _ _ (ne_eqb (length (items q)) (room q) (λ f. omega arith)))
 
 pub returns-clause-after : goal.returns-clause-after
@@ -54,6 +47,6 @@ returns-clause-after g c =
     let n = length-take-le q.len q.slots.now q.fits in
     let s : ℕ → Slot g.row.E.Denot = λ k. record { key = k; element = c.args.element } in
     let put = turned_in q.slots.now q.len c.in-Err.at (q.len + 1 - c.in-Err.at) (s c.key-key.result) c.rotate_right.new.self (omega (arith, fits.within)) (omega arith) (omega arith) c.rotate_right.ensures.after in
-    let absent : holds (g.E.Keyed.number c.args.element) (items q) ≡ false = ap (λ j. holds j (items q)) (sym c.key-key.ensures) ∙ (free c.key-key.result (items q) c.in-Err.at fits).holds in
+    let absent = absent_as c.key-key.result (g.E.Keyed.number c.args.element) (items q) c.in-Err.at c.key-key.ensures c.in-Err.ensures in
     put ∙ sym (with_slot_at (s c.key-key.result) (items q) c.in-Err.at fits) ∙ ap (λ k. with_slot (s k) (items q)) c.key-key.ensures
     ∙ sym (cond-false _ _ _ absent ∙ cond-false _ _ _ (ne_eqb (length (items q)) (room q) (λ f. omega arith)))
