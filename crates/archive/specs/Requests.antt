@@ -2,13 +2,13 @@
 --
 -- lists_of r            the includes and excludes of the request r; serial n is bit n of a mask
 -- is_bad top l k        the serial k is listed and is 0, above `top`, or in both lists
--- least_from p k n      the smallest of the n numbers from k on that passes p
--- first_bad top l       the smallest bad serial of the lists
+-- first_bad top l       the smallest bad serial of the lists, of the serials 0 to 63
 -- list_refusal top l    15 with that serial
 -- request_refusal es r  the refusal of a request: 14 where no delta has the SID, then 15
 -- version_of es s       the serial of the delta of the SID s; 0 for none
 -- request_set es r      the set that a request asks for
-use Rattle.std.specs.Prelude.{ℕ, zero, suc, ◌+◌, Bool, cond, ◌&&◌, ◌||◌, List, length, Some, None, Option, ◌==◌, nat_lt}
+use Rattle.std.specs.Prelude.{ℕ, Bool, ◌&&◌, ◌||◌, List, length, Some, None, Option, ◌==◌, nat_lt}
+use Rattle.std.specs.List.{find, range_with_len}
 use Rattle.std.specs.Option.{unwrap_or}
 use Rattle.lines.specs.declared.fault.Cause.TheVariants.{NoSuchVersion, ListedSerial}
 use Rattle.lines.specs.Faults.{Refusal, plain, numbered}
@@ -26,12 +26,8 @@ lists_of r = record { includes = bit r.includes; excludes = bit r.excludes }
 abbrev pub is_bad : ℕ → Lists → ℕ → Bool
 is_bad top l k = (l.includes k || l.excludes k) && (k == 0 || (nat_lt top k || (l.includes k && l.excludes k)))
 
-abbrev pub least_from : (ℕ → Bool) → ℕ → ℕ → Option ℕ
-least_from p k zero = None
-least_from p k (suc n) = cond (p k) (Some k) (least_from p (k + 1) n)
-
 abbrev pub first_bad : ℕ → Lists → Option ℕ
-first_bad top l = least_from (is_bad top l) 0 64
+first_bad top l = find (is_bad top l) (range_with_len 0 64)
 
 abbrev pub listed : Option ℕ → Refusal
 listed None = None

@@ -48,11 +48,11 @@ module _ (own : ℕ) (other : SerialSet) (k : ℕ) where
       omega arith
 
   pub listed_fits : (m : SerialSet) (o : Option (List ℕ)) → worth own other o ≡ Ok m → serials m k ≡ true → Fits own other k
-  listed_fits m None e h = let z : ◌≡◌ {A = ℕ} 0 1 = cc in absurd (omega arith)
+  listed_fits m None e h = cc
   listed_fits m (Some ns) e h = go (all_allowed 0 own other ns) refl e
     where
       go : (b : Bool) → all_allowed 0 own other ns ≡ b → cond {A = Result SerialSet Cause} b (Ok (gathered unlisted ns)) (Err HeadContent) ≡ Ok m → Fits own other k
       go true a e =
           let q : gathered unlisted ns ≡ m = cc in
           ⊎_elim (λ had. absurd (none_had had)) (λ f. f) (gathered_fits ns unlisted 0 a (ap (λ s. serials s k) q ∙ h))
-      go false a e = let z : ◌≡◌ {A = ℕ} 0 1 = cc in absurd (omega arith)
+      go false a e = cc

@@ -1,7 +1,6 @@
+pub mod Ahead
+pub mod Orders
 pub mod Entries
 pub mod Gathers
-pub mod TableLaws
-pub mod Turns
-pub mod Walks
 pub mod Wholes
-pub mod OldFetch
+pub mod Turns

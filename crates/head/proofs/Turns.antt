@@ -1,67 +1,78 @@
--- One entry more of a head. Assumes nothing.
-use Rattle.std.proofs.Common.{◌≡◌, ℕ, ◌+◌, ◌≤◌, true, false, not, ◌&&◌, eqb, List, [], ◌∷◌, ◌++◌, take, Ok, Err, sym, refl, ap, ◌∙◌, arith}
-use Rattle.std.proofs.lemmas.Bool.{cond-false, ne_eqb}
-use Rattle.lines.specs.declared.fault.Cause.TheVariants.{HeadContent}
+-- A head that is read entry by entry. Assumes nothing.
+use Rattle.std.proofs.Common.{◌≡◌, ℕ, ◌+◌, ◌-◌, ◌<◌, ◌≤◌, true, false, not, eqb, List, [], length, Some, Ok, Err, Option, unwrap_or, sym, refl, ap, ◌∙◌, arith}
+use Rattle.std.specs.Option.{option_eq}
+use Rattle.std.proofs.lemmas.Grind.{common_steps}
+use Rattle.std.proofs.lemmas.List.{length_push}
 use Rattle.lines.specs.declared.fault.Fault.{Fault}
-use Rattle.lines.specs.Faults.{placed}
 use Rattle.lines.specs.Lines.{Line}
-use Rattle.records.specs.declared.delta_record.DeltaRecord.{DeltaRecord}
-use Rattle.records.specs.HeadRecords.{counts_record}
 use Rattle.head.specs.declared.table.Entry.{Entry}
-use Rattle.head.specs.Heads.{next, counts, delta, lists, Outcome, head, opened, after_entry, in_order, answered, entries_of, sound, precedes, has_sid}
-use Rattle.head.specs.Reading.{rest, demand, delta_at, follows, sound_after, Fills}
-use Rattle.head.proofs.Walks.{demand-ok, demand-err, delta-ok, delta-bad, delta-err}
+use Rattle.head.specs.Heads.{counts, last, last_marks, head, follows, last_serial}
+use Rattle.head.specs.Reading.{Ahead, rest, turn_after, Adds, Ends}
+use Rattle.head.proofs.Orders.{last_push}
 
--- the last of the entries has the serial `before`
-pub order_push : (es : List Entry) (e : Entry) (n : ℕ) → in_order (es ++ e ∷ []) n ≡ eqb (n + 1) e.serial
-order_push [] e n = refl
-order_push (a ∷ []) e n = refl
-order_push (a ∷ b ∷ es) e n = order_push (b ∷ es) e n
+-- more than the entries that are still to come
+abbrev pub left : List Entry → ℕ
+left es = unwrap_or (last_serial es) 64
 
-pub follows_push : (s n : ℕ) → s ≤ 63 → eqb (n + 1) s ≡ follows s n
-follows_push s n h = sym (cond-false _ _ _ (ne_eqb s 64 (λ z. omega arith)))
+-- the entries es are read, and a is ahead
+abbrev pub Sofar : List Line → Ahead → List Entry → Type 0
+Sofar ls a es = (1 ≤ left es) × (length es + left es ≤ 64) × (rest a es (turn_after (last_serial es)) ≡ head ls)
 
-sound_is : (es : List Entry) (before : ℕ) (d : DeltaRecord) → ((n : ℕ) → in_order es n ≡ follows before n) → sound es d ≡ sound_after es before d
-sound_is es before d h =
-    ap (λ t. d.real && (t && (precedes d.predecessor d.serial && not (has_sid es d.sid)))) (h d.serial)
+pub begun : (ls : List Line) → Sofar ls (1, ls) []
+begun ls = (omega arith, omega arith, refl)
 
-not_last : (before : ℕ) → (before ≡ 1 → ⊥) → counts ≡ after_entry before
-not_last before h = sym (cond-false _ _ _ (ne_eqb before 1 h))
+-- is the last entry there?
+pub not-one : (o : Option ℕ) → true ≡ not (option_eq eqb o (Some 1)) → o ≡ Some 1 → ⊥
+not-one o h z = grind (arith, common_steps)
 
--- the entries es are read, the last of them of the serial `before`, and more are to come at p
-module _ (ls : List Line) (es : List Entry) (before p : ℕ) (one : 1 ≤ p) (so : rest ls es (after_entry before) p ≡ head ls) (more : before ≡ 1 → ⊥) where
-  at_counts : head ls ≡ rest ls es counts p
-  at_counts = sym so ∙ ap (λ t. rest ls es t p) (sym (not_last before more))
+pub is-one : (o : Option ℕ) → false ≡ not (option_eq eqb o (Some 1)) → o ≡ Some 1
+is-one o h = grind (arith, common_steps)
 
-  pub bad_counts : (f : Fault) → demand counts_record ls p ≡ Err f → head ls ≡ Err f
-  bad_counts f h = at_counts ∙ demand-err ls p one counts_record es counts (next es delta) (λ l. refl) f h
+two : (o : Option ℕ) → 1 ≤ unwrap_or o 64 → (o ≡ Some 1 → ⊥) → 2 ≤ unwrap_or o 64
+two o some more = grind (arith, common_steps)
 
-  module _ (u : Unit) (good : demand counts_record ls p ≡ Ok u) where
-    at_delta : head ls ≡ rest ls es delta (p + 1)
-    at_delta = at_counts ∙ demand-ok ls p one counts_record es counts (next es delta) (λ l. refl) u good
+lower : (o : Option ℕ) (n : ℕ) → follows o n ≡ true → 2 ≤ unwrap_or o 64 → (1 ≤ n) × (n + 1 ≤ unwrap_or o 64)
+lower o n h some = grind (arith, common_steps)
 
-    pub bad-delta : (f : Fault) → delta_at ls (p + 1) ≡ Err f → head ls ≡ Err f
-    bad-delta f h = at_delta ∙ delta-err ls (p + 1) (omega arith) es f h
+to_counts : (o : Option ℕ) → (o ≡ Some 1 → ⊥) → turn_after o ≡ counts
+to_counts o more = grind (arith, common_steps)
 
-    module _ (d : DeltaRecord) (said : delta_at ls (p + 1) ≡ Ok d) (order : (n : ℕ) → in_order es n ≡ follows before n) where
-      pub unsound : sound_after es before d ≡ false → head ls ≡ Err (placed HeadContent (p + 1))
-      unsound h = at_delta ∙ delta-bad ls (p + 1) (omega arith) es d said (sound_is es before d order ∙ h)
+module _ (ls : List Line) (a b : Ahead) (es : List Entry) (so : Sofar ls a es) where
+  module _ (more : last_serial es ≡ Some 1 → ⊥) where
+    pub room : length es < 63
+    room = omega (arith, two (last_serial es) so.0 more, so.1)
 
-      module _ (fits : sound_after es before d ≡ true) where
-        at-lists : head ls ≡ rest ls es (lists (opened d)) (p + 2)
-        at-lists =
-            let two : p + 1 + 1 ≡ p + 2 = omega arith in
-            at_delta ∙ delta-ok ls (p + 1) (omega arith) es d said (sound_is es before d order ∙ fits) ∙ ap (rest ls es (lists (opened d))) two
+    at_counts : head ls ≡ rest a es counts
+    at_counts = sym so.2 ∙ ap (rest a es) (to_counts (last_serial es) more)
 
-        pub bad-entry : (e : Entry) (f : Fault) → Fills ls (p + 2) d e (Err f) → head ls ≡ Err f
-        bad-entry e f h = at-lists ∙ h es
+    pub refused : (fs : List Entry) (f : Fault) → Adds a es (Err f) b fs → head ls ≡ Err f
+    refused fs f h = at_counts ∙ h
 
-        pub next-entry : (e : Entry) (q : ℕ) → Fills ls (p + 2) d e (Ok q) → rest ls (es ++ e ∷ []) (after_entry d.serial) q ≡ head ls
-        next-entry e q h = sym (at-lists ∙ h.1 es)
+    module _ (fs : List Entry) (h : Adds a es (Ok tt) b fs) where
+      last_is : last_serial fs ≡ Some h.0.serial
+      last_is = ap last_serial h.1 ∙ last_push es h.0
 
--- the answer and the table of a head at fault
-pub refused : (o : Outcome) (f : Fault) → o ≡ Err f → answered o ≡ Err f
-refused o f e = ap answered e
+      left_is : left fs ≡ h.0.serial
+      left_is = ap (λ o. unwrap_or o 64) last_is
 
-pub emptied : (o : Outcome) (f : Fault) (es : List Entry) (n : ℕ) → o ≡ Err f → n ≡ 0 → take n es ≡ entries_of o
-emptied o f es n e z = ap (λ k. take k es) z ∙ sym (ap entries_of e)
+      pub smaller : left fs < left es
+      smaller = omega (arith, left_is, lower (last_serial es) h.0.serial h.2 (two (last_serial es) so.0 more))
+
+      pub added : Sofar ls b fs
+      added =
+          let low = lower (last_serial es) h.0.serial h.2 (two (last_serial es) so.0 more) in
+          let longer : length fs ≡ length es + 1 = ap length h.1 ∙ length_push es h.0 in (
+            omega (arith, left_is, low.0),
+            omega (arith, left_is, low.1, longer, so.1),
+            ap (λ o. rest b fs (turn_after o)) last_is ∙ sym (at_counts ∙ h.3),
+          )
+
+  module _ (one : last_serial es ≡ Some 1) where
+    at_last : head ls ≡ rest a es (last last_marks)
+    at_last = sym so.2 ∙ ap (λ o. rest a es (turn_after o)) one
+
+    pub ended : Ends a (Ok tt) b → head ls ≡ Ok (es, b.0 - 1)
+    ended h = at_last ∙ h es
+
+    pub unended : (f : Fault) → Ends a (Err f) b → head ls ≡ Err f
+    unended f h = at_last ∙ h es

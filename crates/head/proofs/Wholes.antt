@@ -15,8 +15,9 @@ use Rattle.records.specs.DeltaRecords.{delta_record}
 use Rattle.records.specs.SerialLists.{serial_list, numbers}
 use Rattle.records.specs.Pieces.{cut}
 use Rattle.head.specs.declared.table.Entry.{Entry}
-use Rattle.head.specs.Heads.{Turn, counts, delta, lists, excludes, comment, close, last, Step, fault, next, whole, formal, with_set, after_entry, last_marks, on_delta, on_comment, on_excludes, on_includes, on_last, judge, proceed, walk, head, Outcome, opened, including, excluding, in_order, precedes, same_sid, has_sid, sound, includes_mark, excludes_mark}
+use Rattle.head.specs.Heads.{Turn, counts, delta, lists, excludes, comment, close, last, Step, fault, next, whole, formal, with_set, after_entry, last_marks, on_delta, on_comment, on_excludes, on_includes, on_last, judge, proceed, walk, head, Outcome, opened, including, excluding, follows, in_order, precedes, same_sid, has_sid, sound, includes_mark, excludes_mark}
 use Rattle.head.specs.Whole.{Runs, Below, Lower, Disjoint, Differ, Whole}
+use Rattle.head.proofs.Orders.{last_more}
 use Rattle.head.proofs.Gathers.{Fits, none_had, listed_fits}
 
 abbrev pub IsWhole : Outcome → Type 0
@@ -33,7 +34,7 @@ Ready es = (es ≡ []) ⊎ ((a : ℕ) × (b : ℕ) × Sofar a es b)
 -- what is known of an entry before both its lists are read
 abbrev Low : Entry → Type 0
 Low e =
-    (e.predecessor < e.serial) × (e.predecessor ≡ 0 → e.serial ≡ 1) × Below e.serial e.includes × Below e.serial e.excludes
+    (e.predecessor < e.serial) × (e.predecessor ≡ 0 → e.serial ≡ 1) × Below e.serial e.lists.includes × Below e.serial e.lists.excludes
 
 abbrev Filling : List Entry → Entry → Type 0
 Filling es e = (a : ℕ) × (1 ≤ e.serial) × Sofar a es e.serial × Low e × (has_sid es e.sid ≡ false)
@@ -41,8 +42,8 @@ Filling es e = (a : ℕ) × (1 ≤ e.serial) × Sofar a es e.serial × Low e × 
 abbrev St : List Entry → Turn → Type 0
 St es counts = Ready es
 St es delta = Ready es
-St es (lists e) = Filling es e × (e.excludes ≡ unlisted)
-St es (excludes e) = Filling es e × (e.excludes ≡ unlisted)
+St es (lists e) = Filling es e × (e.lists.excludes ≡ unlisted)
+St es (excludes e) = Filling es e × (e.lists.excludes ≡ unlisted)
 St es (comment e) = Filling es e × Disjoint e
 St es (close e) = Filling es e × Disjoint e
 St es (last ms) = Whole es
@@ -56,7 +57,7 @@ runs_last : (e : Entry) (es : List Entry) (a b n : ℕ) → Runs a (e ∷ es) b 
 runs_last e [] a b n r o =
     let q : n + 1 ≡ e.serial = eqb-true (n + 1) e.serial o in
     omega (arith, r.0, r.1, r.2)
-runs_last e (f ∷ es) a b n r o = runs_last f es (a - 1) b n r.2 o
+runs_last e (f ∷ es) a b n r o = runs_last f es (a - 1) b n r.2 (ap (λ s. follows s n) (sym (last_more e f es)) ∙ o)
 
 runs_push : (es : List Entry) (e : Entry) (a b : ℕ) → Runs a es b → e.serial ≡ b → 1 ≤ b → Runs a (es ++ e ∷ []) (b - 1)
 runs_push [] e a b r s one = (s ∙ sym r, omega (arith, r), ap (λ n. n - 1) r)
@@ -72,7 +73,7 @@ differ_push (x ∷ es) e d h =
     let p = or_parts (same_sid x.sid e.sid) (has_sid es e.sid) h in
     (All-push (λ f. same_sid x.sid f.sid ≡ false) es e d.0 p.0, differ_push es e d.1 p.1)
 
-none_excluded : (e : Entry) → e.excludes ≡ unlisted → Disjoint e
+none_excluded : (e : Entry) → e.lists.excludes ≡ unlisted → Disjoint e
 none_excluded e z k h =
     absurd (none_had e.serial unlisted k (ap (λ s. serials s k) (sym z) ∙ h))
 
@@ -106,16 +107,16 @@ set_next (Err c) f h = tt
 comment_next : (es : List Entry) (e : Entry) (l : Line) → Filling es e × Disjoint e → Next (on_comment es e l)
 comment_next es e l f = formal_next (comment_record l) (next es (close e)) f
 
-excludes_next : (es : List Entry) (e : Entry) (l : Line) (o : Option Line) → Filling es e × (e.excludes ≡ unlisted) → Next (on_excludes es e l o)
+excludes_next : (es : List Entry) (e : Entry) (l : Line) (o : Option Line) → Filling es e × (e.lists.excludes ≡ unlisted) → Next (on_excludes es e l o)
 excludes_next es e l None s = comment_next es e l (s.0, none_excluded e s.1)
 excludes_next es e l (Some r) s =
     let f = s.0 in
-    set_next (serial_list e.serial e.includes r) (λ m. next es (comment (excluding m e)))
+    set_next (serial_list e.serial e.lists.includes r) (λ m. next es (comment (excluding m e)))
     (λ m q.
-    let fits : (k : ℕ) → serials m k ≡ true → Fits e.serial e.includes k = λ k h. listed_fits e.serial e.includes k m (numbers (cut 32 r)) q h in
+    let fits : (k : ℕ) → serials m k ≡ true → Fits e.serial e.lists.includes k = λ k h. listed_fits e.serial e.lists.includes k m (numbers (cut 32 r)) q h in
     ((f.0, f.1, f.2, (f.3.0, f.3.1, f.3.2, λ k h. (fits k h).0), f.4), λ k h. (fits k h).1))
 
-includes_next : (es : List Entry) (e : Entry) (l : Line) (o : Option Line) → Filling es e × (e.excludes ≡ unlisted) → Next (on_includes es e l o)
+includes_next : (es : List Entry) (e : Entry) (l : Line) (o : Option Line) → Filling es e × (e.lists.excludes ≡ unlisted) → Next (on_includes es e l o)
 includes_next es e l None f = excludes_next es e l (after excludes_mark l) f
 includes_next es e l (Some r) s =
     let f = s.0 in
@@ -125,7 +126,7 @@ includes_next es e l (Some r) s =
 
 sofar_in_order : (es : List Entry) (n : ℕ) → Ready es → in_order es n ≡ true → 1 ≤ n → (a : ℕ) × Sofar a es n
 sofar_in_order [] n r o one = (n, (leb-true n 63 (and_parts (leb 1 n) (leb n 63) o).1, refl, tt, tt))
-sofar_in_order (e ∷ es) n (inl q) o one = let z : ◌≡◌ {A = ℕ} 0 1 = cc in absurd (omega arith)
+sofar_in_order (e ∷ es) n (inl q) o one = cc
 sofar_in_order (e ∷ es) n (inr s) o one =
     let b = runs_last e es s.0 s.1 n s.2.1 o in
     (s.0, (s.2.0, subst (Runs s.0 (e ∷ es)) (sym b) s.2.1, s.2.2, s.2.3))

@@ -5,7 +5,9 @@
 -- opened d                      the entry that the delta record d opens, with no lists yet
 -- including m e                 the entry e with the includes m
 -- excluding m e                 the entry e with the excludes m
--- in_order es n           the serial n may follow the entries es: the first is 1 to 63, each other one less than that before it
+-- last_serial es                the serial of the last of the entries es, if there is one
+-- follows b n                   the serial n may follow that in b: the first is 1 to 63, each other one less than that before it
+-- in_order es n                 the serial n may follow the entries es
 -- precedes p n                  the predecessor p is lower than its serial n, and 0 only for serial 1
 -- same_sid a b                  the SIDs are equal, part by part
 -- has_sid es s                  the SID s is that of an entry already read
@@ -24,7 +26,9 @@
 -- head ls                       the head of the records ls
 -- answered o                    the number of its records, or its fault
 -- entries_of o                  its entries, newest first; none where it is at fault
-use Rattle.std.specs.Prelude.{ℕ, ◌+◌, Bool, false, cond, not, ◌&&◌, ◌||◌, List, [], ◌∷◌, ◌++◌, Some, None, Ok, Err, Option, Result, ◌==◌, nat_le, nat_lt}
+use Rattle.std.specs.Prelude.{ℕ, ◌+◌, ◌-◌, Bool, cond, not, ◌&&◌, ◌||◌, List, [], ◌∷◌, ◌++◌, length, Some, None, Ok, Err, Option, Result, ◌==◌, nat_le, nat_lt, slice_get}
+use Rattle.std.specs.List.{list_any}
+use Rattle.std.specs.Option.{option_map}
 use Rattle.std.specs.Str.{bytes_eq}
 use Rattle.lines.specs.declared.fault.Cause.{Cause}
 use Rattle.lines.specs.declared.fault.Cause.TheVariants.{HeadForm, HeadContent}
@@ -54,20 +58,25 @@ last_marks = (1 ∷ 117 ∷ []) ∷ (1 ∷ 85 ∷ []) ∷ (1 ∷ 116 ∷ []) ∷
 
 abbrev pub opened : DeltaRecord → Entry
 opened d =
-    record { sid = d.sid; serial = d.serial; predecessor = d.predecessor; includes = unlisted; excludes = unlisted }
+    record { sid = d.sid; serial = d.serial; predecessor = d.predecessor; lists = record { includes = unlisted; excludes = unlisted } }
 
 abbrev pub including : SerialSet → Entry → Entry
 including m e =
-    record { sid = e.sid; serial = e.serial; predecessor = e.predecessor; includes = m; excludes = e.excludes }
+    record { sid = e.sid; serial = e.serial; predecessor = e.predecessor; lists = record { includes = m; excludes = e.lists.excludes } }
 
 abbrev pub excluding : SerialSet → Entry → Entry
 excluding m e =
-    record { sid = e.sid; serial = e.serial; predecessor = e.predecessor; includes = e.includes; excludes = m }
+    record { sid = e.sid; serial = e.serial; predecessor = e.predecessor; lists = record { includes = e.lists.includes; excludes = m } }
+
+abbrev pub last_serial : List Entry → Option ℕ
+last_serial es = option_map (λ e. e.serial) (slice_get es (length es - 1))
+
+abbrev pub follows : Option ℕ → ℕ → Bool
+follows None n = nat_le 1 n && nat_le n 63
+follows (Some b) n = n + 1 == b
 
 abbrev pub in_order : List Entry → ℕ → Bool
-in_order [] n = nat_le 1 n && nat_le n 63
-in_order (e ∷ []) n = n + 1 == e.serial
-in_order (e ∷ f ∷ es) n = in_order (f ∷ es) n
+in_order es n = follows (last_serial es) n
 
 abbrev pub precedes : ℕ → ℕ → Bool
 precedes p n = nat_lt p n && (n == 1 || nat_lt 0 p)
@@ -77,8 +86,7 @@ same_sid a b =
     (a.release == b.release) && (a.level == b.level && (a.branch == b.branch && a.sequence == b.sequence))
 
 abbrev pub has_sid : List Entry → Sid → Bool
-has_sid [] s = false
-has_sid (e ∷ es) s = same_sid e.sid s || has_sid es s
+has_sid es s = list_any (λ e. same_sid e.sid s) es
 
 abbrev pub sound : List Entry → DeltaRecord → Bool
 sound es d =
@@ -118,7 +126,7 @@ on_comment es e l = formal (comment_record l) (next es (close e))
 abbrev pub on_excludes : List Entry → Entry → Line → Option Line → Step
 on_excludes es e l None = on_comment es e l
 on_excludes es e l (Some rest) =
-    with_set (serial_list e.serial e.includes rest) (λ m. next es (comment (excluding m e)))
+    with_set (serial_list e.serial e.lists.includes rest) (λ m. next es (comment (excluding m e)))
 
 abbrev pub on_includes : List Entry → Entry → Line → Option Line → Step
 on_includes es e l None = on_excludes es e l (after excludes_mark l)

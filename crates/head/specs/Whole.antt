@@ -22,11 +22,11 @@ abbrev pub Below : ℕ → SerialSet → Type 0
 Below n m = (k : ℕ) → serials m k ≡ true → k < n
 
 abbrev pub Disjoint : Entry → Type 0
-Disjoint e = (k : ℕ) → serials e.excludes k ≡ true → serials e.includes k ≡ false
+Disjoint e = (k : ℕ) → serials e.lists.excludes k ≡ true → serials e.lists.includes k ≡ false
 
 abbrev pub Lower : Entry → Type 0
 Lower e =
-    (e.predecessor < e.serial) × (e.predecessor ≡ 0 → e.serial ≡ 1) × Below e.serial e.includes × Below e.serial e.excludes × Disjoint e
+    (e.predecessor < e.serial) × (e.predecessor ≡ 0 → e.serial ≡ 1) × Below e.serial e.lists.includes × Below e.serial e.lists.excludes × Disjoint e
 
 abbrev pub Differ : List Entry → Type 0
 Differ [] = Unit {0}

@@ -1,32 +1,27 @@
-ghost use Rattle.std.specs.Prelude.{◌≡◌, ◌<◌, ◌≤◌, true};
-ghost use Rattle.head.specs.Reading.{follows, sound_after};
+ghost use Rattle.std.specs.Prelude.{◌≡◌, ◌<◌, true};
+ghost use Rattle.head.specs.Heads.{sound, follows};
 
-use crate::table::{Entry, has_sid};
+use crate::table::{Entry, MOST_DELTAS, has_sid, last_serial};
 use records::delta_record::DeltaRecord;
 
-// The serial that stands for none before the first entry: one above the greatest.
-pub(crate) const NONE_BEFORE: u32 = 64;
-
-// May the serial n follow `before`?
-fn follows_on(before: u32, n: u32) -> bool
-    ensures { result ≡ follows before n }
+// May the serial n come after `before`, that of the last entry?
+fn follows_on(before: Option<u8>, n: u32) -> bool
+    ensures value { result ≡ follows before n }
+    ensures small { result ≡ true → n < 256 }
 {
-    if before == NONE_BEFORE {
-        1 <= n && n <= 63
-    } else {
-        n < before && n + 1 == before
+    match before {
+        None => (1..=MOST_DELTAS as u32).contains(&n),
+        Some(before) => u32::from(before).checked_sub(1) == Some(n),
     }
 }
 
-// Does a delta record fit in after the entries, the last of which has the serial `before`?
-pub(crate) fn is_sound(es: &[Entry], before: u32, d: DeltaRecord) -> bool
-    requires low { 2 ≤ before }
-    requires high { before ≤ 64 }
-    ensures value { result ≡ sound_after es.now before d }
-    ensures bounds { result ≡ true → (1 ≤ d.serial) × (d.serial < before) × (d.predecessor < d.serial) }
+// Does a delta record fit in after the entries?
+pub(crate) fn is_sound(es: &[Entry], d: DeltaRecord) -> bool
+    ensures value { result ≡ sound es.now d }
+    ensures small { result ≡ true → (d.serial < 256) × (d.predecessor < 256) }
 {
     d.real
-        && follows_on(before, d.serial)
+        && follows_on(last_serial(es), d.serial)
         && d.predecessor < d.serial
         && (d.serial == 1 || 0 < d.predecessor)
         && !has_sid(es, d.sid)

@@ -1,41 +1,54 @@
-ghost use Rattle.std.specs.Prelude.{◌≤◌, IfOk};
-ghost use Rattle.head.specs.Reading.{Fills};
+ghost use Rattle.std.specs.Prelude.{◌<◌, length};
+ghost use Rattle.head.specs.Reading.{Fills, Adds};
+ghost use Rattle.head.specs.Tables.{entries};
 
-use crate::record::{take_comment, take_list, take_mark};
-use crate::table::Entry;
-use lines::fault::Fault;
+use crate::content::is_sound;
+use crate::record::Records;
+use crate::table::{Entry, Table};
+use lines::fault::{Cause, Fault};
 use lines::source::LineSource;
 use records::delta_record::DeltaRecord;
-use sets::SerialSet;
+use sets::{Lists, SerialSet};
 
-// Fills an entry from its delta record and the records after it, up to the mark of its end; the place after that.
-pub(crate) fn fill_entry<S: LineSource>(
-    source: &S,
-    place: usize,
+// Fills an entry from its delta record and the records after it, up to the mark of its end.
+fn fill_entry<S: LineSource>(
+    records: &mut Records<'_, S>,
     d: DeltaRecord,
     entry: &mut Entry,
-) -> Result<usize, Fault>
-    requires from { 1 ≤ place }
-    requires to { place ≤ 4001 }
-    requires serial { d.serial ≤ 63 }
-    requires predecessor { d.predecessor ≤ 63 }
-    ensures fills { Fills (S.LineSource.lines source.now) place d entry.new result }
-    ensures there { IfOk result (λ q. (1 ≤ q) × (q ≤ 4001)) }
+) -> Result<(), Fault>
+    requires serial { d.serial < 256 }
+    requires predecessor { d.predecessor < 256 }
+    ensures { Fills records.old d entry.new result records.new }
 {
-    let own = d.serial as u8;
+    let serial = d.serial as u8;
     let none = SerialSet::empty();
+    let includes = records.take_list(b'i', serial, none)?;
+    let excludes = records.take_list(b'x', serial, includes)?;
     *entry = Entry {
         sid: d.sid,
-        serial: own,
+        serial,
         predecessor: d.predecessor as u8,
-        includes: none,
-        excludes: none,
+        lists: Lists { includes, excludes },
     };
-    let (includes, at) = take_list(source, place, b'i', own, none)?;
-    entry.includes = includes;
-    let (excludes, end) = take_list(source, at, b'x', own, includes)?;
-    entry.excludes = excludes;
-    take_comment(source, end)?;
-    take_mark(source, end + 1, b"\x01e")?;
-    Ok(end + 2)
+    records.take_comment()?;
+    records.take_mark(b"\x01e")
+}
+
+// Reads an entry into the table.
+pub(crate) fn read_entry<S: LineSource>(
+    records: &mut Records<'_, S>,
+    table: &mut Table,
+) -> Result<(), Fault>
+    requires { length (entries table.old) < 63 }
+    ensures { Adds records.old (entries table.old) result records.new (entries table.new) }
+{
+    records.take_counts()?;
+    let fault = records.refuse(Cause::HeadContent);
+    let d = records.take_delta()?;
+    if !is_sound(table.entries(), d) {
+        return Err(fault);
+    }
+    fill_entry(records, d, &mut table.entries[table.count])?;
+    table.count += 1;
+    Ok(())
 }

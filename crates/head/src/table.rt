@@ -1,7 +1,7 @@
 ghost use Rattle.std.specs.Prelude.{◌≤◌};
 
 use records::sid::Sid;
-use sets::SerialSet;
+use sets::Lists;
 
 // The most deltas that a head has.
 pub const MOST_DELTAS: usize = 63;
@@ -12,11 +12,11 @@ pub struct Entry {
     pub sid: Sid,
     pub serial: u8,
     pub predecessor: u8,
-    pub includes: SerialSet,
-    pub excludes: SerialSet,
+    pub lists: Lists,
 }
 
-// The deltas of a head, newest first: the first `count` of the entries.
+// The deltas of a head, newest first: the first `count` of the entries. By the project's rule it is an array in a plain struct: a library
+// has no heap, and one entry is lent and filled while its records are read.
 #[derive(Clone, Copy)]
 pub struct Table {
     pub(crate) entries: [Entry; MOST_DELTAS],
@@ -26,4 +26,4 @@ pub struct Table {
 
 mod methods;
 
-pub(crate) use methods::{find_in, has_sid};
+pub(crate) use methods::{has_sid, last_serial};

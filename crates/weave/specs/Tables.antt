@@ -18,7 +18,7 @@ abbrev pub listed : sets.Lists → Lists
 listed l = lists l.includes l.excludes
 
 abbrev pub delta_of : Entry → Delta
-delta_of e = record { predecessor = e.predecessor; lists = lists e.includes e.excludes }
+delta_of e = record { predecessor = e.predecessor; lists = listed e.lists }
 
 abbrev pub deltas : List Entry → List Delta
 deltas es = map delta_of es

@@ -33,10 +33,10 @@ fn set_in(table: &[Entry], version: u8, call: Lists) -> SerialSet
         if stands {
             set = set.with(n);
             marked = Lists {
-                includes: marked.includes.union(entry.includes),
+                includes: marked.includes.union(entry.lists.includes),
                 excludes: marked
                     .excludes
-                    .union(entry.excludes.without(marked.includes)),
+                    .union(entry.lists.excludes.without(marked.includes)),
             };
         }
         rest = older;

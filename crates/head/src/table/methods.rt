@@ -1,40 +1,29 @@
 ghost use Rattle.std.specs.Prelude.{◌≡◌, ◌≤◌, [], length};
-ghost use Rattle.head.specs.Heads.{same_sid, has_sid};
+ghost use Rattle.head.specs.Heads.{has_sid, last_serial};
 ghost use Rattle.head.specs.Tables.{entries, serial_of};
 
 use super::{Entry, MOST_DELTAS, Table};
 use records::sid::Sid;
-use sets::SerialSet;
-
-pub(crate) fn is_sid(a: Sid, b: Sid) -> bool
-    ensures { result ≡ same_sid a b }
-{
-    a.release == b.release && a.level == b.level && a.branch == b.branch && a.sequence == b.sequence
-}
-
-// The serial of the entry of that SID.
-pub(crate) fn find_in(es: &[Entry], sid: Sid) -> Option<u8>
-    ensures { result ≡ serial_of es.now sid }
-{
-    for e in es {
-        if is_sid(e.sid, sid) {
-            return Some(e.serial);
-        }
-    }
-    None
-}
+use sets::{Lists, SerialSet};
 
 // Is the SID that of one of the entries?
 pub(crate) fn has_sid(es: &[Entry], sid: Sid) -> bool
     ensures { result ≡ has_sid es.now sid }
 {
-    find_in(es, sid).is_some()
+    es.iter().any(|e| e.sid == sid)
+}
+
+// The serial of the last of the entries.
+pub(crate) fn last_serial(es: &[Entry]) -> Option<u8>
+    ensures { result ≡ last_serial es.now }
+{
+    es.last().map(|e| e.serial)
 }
 
 impl Table {
     // A table with no entries.
     pub(crate) fn new() -> Table
-        ensures { result.count ≡ 0 }
+        ensures { entries result ≡ [] }
     {
         let sid = Sid {
             release: 0,
@@ -43,12 +32,15 @@ impl Table {
             sequence: 0,
         };
         let none = SerialSet::empty();
+        let lists = Lists {
+            includes: none,
+            excludes: none,
+        };
         let blank = Entry {
             sid,
             serial: 0,
             predecessor: 0,
-            includes: none,
-            excludes: none,
+            lists,
         };
         Table {
             entries: [blank; MOST_DELTAS],
@@ -75,6 +67,9 @@ impl Table {
     pub fn find(&self, sid: Sid) -> Option<u8>
         ensures { result ≡ serial_of (entries self.now) sid }
     {
-        find_in(self.entries(), sid)
+        self.entries()
+            .iter()
+            .find(|e| e.sid == sid)
+            .map(|e| e.serial)
     }
 }

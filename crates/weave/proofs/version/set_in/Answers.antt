@@ -30,7 +30,7 @@ entries-preserved-then-stands c =
       | else-reached-n w ↦ w.reached-is ∙ sym (cond-false _ _ _ (ne_eqb v n w.if-reached-n.false))
     ] in
     let new : Lists = record { includes = c.union.result; excludes = c.union-then-stands.result } in
-    let outs : (j : ℕ) → serials c.union-then-stands.result j ≡ (serials m.excludes j || (serials entry.excludes j && not (serials m.includes j))) =
+    let outs : (j : ℕ) → serials c.union-then-stands.result j ≡ (serials m.excludes j || (serials entry.lists.excludes j && not (serials m.includes j))) =
     λ j. c.union-then-stands.ensures j ∙ ap (λ b. serials m.excludes j || b) (c.without.ensures j) in
     record {
       few = omega (arith, c.entries.invariant.few);
