@@ -1,7 +1,8 @@
 -- What the calls answer, from what the head was read as and what was chosen.
-use Rattle.std.proofs.Common.{◌≡◌, ℕ, List, length, Some, None, Ok, Err, Option, Result, sym, refl, ap, ◌∙◌}
+use Rattle.std.proofs.Common.{◌≡◌, ℕ, List, length, Some, None, Ok, Err, Option, Result, sym, refl, ap, ◌∙◌, arith}
 use mathlib.Core.Path.{fun_ext}
 use Rattle.std.specs.Result as results
+use Rattle.std.proofs.lemmas.Grind.{common_steps}
 use Rattle.lines.specs.declared.fault.Fault.{Fault}
 use Rattle.lines.specs.Faults.{Refusal, first_refusal, verdict, left}
 use Rattle.lines.specs.Lines.{Line}
@@ -15,7 +16,7 @@ use Rattle.head.specs.Heads.{Outcome}
 use Rattle.head.specs.Tables.{entries, serial_of, loaded}
 use Rattle.weave.specs.Versions.{Lists}
 use Rattle.weave.specs.Handing.{body_refusal, shown_of, chosen_set, hand_refusal}
-use Rattle.archive.specs.Requests.{lists_of, first_bad, listed, list_refusal, known_refusal, request_refusal, request_set}
+use Rattle.archive.specs.Requests.{lists_of, first_bad, listed, request_refusal, request_set}
 use Rattle.archive.specs.Reading.{get_refusal, get_lines}
 use Rattle.archive.specs.declared.request.Request.{Request}
 
@@ -30,9 +31,7 @@ passed (Some g) a r x is ok = (cc, cc)
 
 -- a request of a version that is there is refused for its lists only
 pub known : (es : List Entry) (r : Request) (v top : ℕ) (l : Lists) (o : Option ℕ) → serial_of es r.sid ≡ Some v → top ≡ length es → l ≡ lists_of r → o ≡ first_bad top l → request_refusal es r ≡ listed o
-known es r v top l o found few same bad =
-    ap (λ (o : Option ℕ). known_refusal o (list_refusal (length es) (lists_of r))) found
-    ∙ sym (ap listed (bad ∙ ap (λ n. first_bad n l) few ∙ ap (first_bad (length es)) same))
+known es r v top l o found few same bad = grind (arith, common_steps)
 
 -- what the choice of a set comes to
 abbrev pub Choice : List Entry → Request → Result SerialSet Fault → Type 0
@@ -40,12 +39,10 @@ Choice es r c = results.MatchResult c (λ s. (request_refusal es r ≡ None) × 
 
 -- two answers to a call that is refused are the same
 either : {A : Type 0} (b : Refusal) (f : Fault) (x y : A) → verdict (first_refusal b (Some f)) x ≡ verdict (first_refusal b (Some f)) y
-either None f x y = refl
-either (Some g) f x y = refl
+either b f x y = grind (arith, common_steps)
 
 neither : {A : Type 0} (b : Refusal) (f : Fault) (x y z : A) → left (first_refusal b (Some f)) x z ≡ left (first_refusal b (Some f)) y z
-neither None f x y z = refl
-neither (Some g) f x y z = refl
+neither b f x y z = grind (arith, common_steps)
 
 module _ (es : List Entry) (n : ℕ) (ls : List Line) (r : Request) (space : ℕ) where
   hand : Refusal → Serials → Refusal
