@@ -1,6 +1,7 @@
 -- Every head that is read is whole, and has no more records than there are lines. Assumes nothing.
 use Rattle.std.proofs.Common.{◌≡◌, ℕ, ◌+◌, ◌-◌, ◌<◌, ◌≤◌, Bool, true, false, cond, not, ◌&&◌, ◌||◌, eqb, ltb, leb, ◌⊎◌, List, [], ◌∷◌, ◌++◌, length, Some, None, Ok, Err, Option, Result, sym, refl, ap, ◌∙◌, subst, inl, inr, ⊎_elim, arith}
 use Rattle.std.specs.List.{AllByRecursion}
+use Rattle.std.proofs.lemmas.Grind.{common_steps}
 use Rattle.std.proofs.ByRecursion.{All-push}
 use Rattle.std.proofs.lemmas.List.{length_push}
 use Rattle.std.proofs.lemmas.Bool.{and_parts, or_parts, or_cases, not-true, ltb-true, leb-true, eqb-true}
@@ -97,12 +98,10 @@ ended es e f d one =
 
 -- a record of which only the form is judged
 formal_next : (b : Bool) (s : Step) → Next s → Next (formal b s)
-formal_next true s h = h
-formal_next false s h = tt
+formal_next b s h = grind (arith, common_steps)
 
 set_next : (s : Result SerialSet Cause) (f : SerialSet → Step) → ((m : SerialSet) → s ≡ Ok m → Next (f m)) → Next (with_set s f)
-set_next (Ok m) f h = h m refl
-set_next (Err c) f h = tt
+set_next s f h = grind (arith, common_steps)
 
 comment_next : (es : List Entry) (e : Entry) (l : Line) → Filling es e × Disjoint e → Next (on_comment es e l)
 comment_next es e l f = formal_next (comment_record l) (next es (close e)) f
@@ -157,8 +156,7 @@ close_next es e s = go (eqb e.serial 1) refl
     go false q = inr (s.0.0, e.serial - 1, sofar_push es e s.0 s.1)
 
 last_next : (es : List Entry) (ms : List Line) → Whole es → Next (on_last es ms)
-last_next es [] h = h
-last_next es (m ∷ ms) h = h
+last_next es ms h = grind (arith, common_steps)
 
 judge_next : (es : List Entry) (t : Turn) (l : Line) → St es t → Next (judge es t l)
 judge_next es counts l s = formal_next (counts_record l) (next es delta) s
@@ -171,9 +169,7 @@ judge_next es (last []) l s = s
 judge_next es (last (m ∷ ms)) l s = formal_next _ (on_last es ms) (last_next es ms s)
 
 proceed_whole : (s : Step) (p : ℕ) (f : List Entry → Turn → Outcome) → Next s → ((es : List Entry) (t : Turn) → St es t → IsWhole (f es t)) → IsWhole (proceed s p f)
-proceed_whole (fault c) p f h k = tt
-proceed_whole (next es t) p f h k = k es t h
-proceed_whole (whole es) p f h k = h
+proceed_whole s p f h k = grind (arith, common_steps)
 
 walk_whole : (ls : List Line) (p : ℕ) (es : List Entry) (t : Turn) → St es t → IsWhole (walk p es t ls)
 walk_whole [] p es t s = tt
@@ -189,13 +185,10 @@ EndsBefore k (Ok (es, n)) = n < k
 EndsBefore k (Err f) = Unit {0}
 
 ends_more : (o : Outcome) (j k : ℕ) → j ≤ k → EndsBefore j o → EndsBefore k o
-ends_more (Ok (es, n)) j k h e = omega arith
-ends_more (Err f) j k h e = tt
+ends_more o j k h e = grind (arith, common_steps)
 
 proceed_ends : (s : Step) (p k : ℕ) (f : List Entry → Turn → Outcome) → p < k → ((es : List Entry) (t : Turn) → EndsBefore k (f es t)) → EndsBefore k (proceed s p f)
-proceed_ends (fault c) p k f h e = tt
-proceed_ends (next es t) p k f h e = e es t
-proceed_ends (whole es) p k f h e = h
+proceed_ends s p k f h e = grind (arith, common_steps)
 
 walk_ends : (ls : List Line) (p : ℕ) (es : List Entry) (t : Turn) → EndsBefore (p + length ls) (walk p es t ls)
 walk_ends [] p es t = tt
