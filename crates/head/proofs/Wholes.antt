@@ -1,10 +1,10 @@
 -- Every head that is read is whole, and has no more records than there are lines. Assumes nothing.
-use Rattle.std.proofs.Common.{◌≡◌, ℕ, ◌+◌, ◌-◌, ◌<◌, ◌≤◌, Bool, true, false, cond, not, ◌&&◌, ◌||◌, eqb, ltb, leb, ◌⊎◌, List, [], ◌∷◌, ◌++◌, length, Some, None, Ok, Err, Option, Result, sym, refl, ap, ◌∙◌, subst, inl, inr, ⊎_elim, arith}
+use Rattle.std.proofs.Common.{◌≡◌, ℕ, ◌+◌, ◌-◌, ◌<◌, ◌≤◌, Bool, true, false, cond, not, ◌&&◌, eqb, ◌⊎◌, List, [], ◌∷◌, ◌++◌, length, Some, None, Ok, Err, Option, Result, sym, refl, ap, ◌∙◌, subst, inl, inr, arith}
 use Rattle.std.specs.List.{AllByRecursion}
 use Rattle.std.proofs.lemmas.Grind.{common_steps}
 use Rattle.std.proofs.ByRecursion.{All-push}
 use Rattle.std.proofs.lemmas.List.{length_push}
-use Rattle.std.proofs.lemmas.Bool.{and_parts, or_parts, or_cases, not-true, ltb-true, leb-true, eqb-true}
+use Rattle.std.proofs.lemmas.Bool.{or_parts, eqb-true}
 use Rattle.lines.specs.declared.fault.Cause.{Cause}
 use Rattle.lines.specs.declared.fault.Cause.TheVariants.{HeadContent}
 use Rattle.lines.specs.Lines.{Line}
@@ -124,11 +124,12 @@ includes_next es e l (Some r) s =
     ((f.0, f.1, f.2, (f.3.0, f.3.1, λ k h. (listed_fits e.serial unlisted k m (numbers (cut 32 r)) q h).0, f.3.3), f.4), s.1))
 
 sofar_in_order : (es : List Entry) (n : ℕ) → Ready es → in_order es n ≡ true → 1 ≤ n → (a : ℕ) × Sofar a es n
-sofar_in_order [] n r o one = (n, (leb-true n 63 (and_parts (leb 1 n) (leb n 63) o).1, refl, tt, tt))
+sofar_in_order [] n r o one = (n, grind (arith, common_steps))
 sofar_in_order (e ∷ es) n (inl q) o one = cc
-sofar_in_order (e ∷ es) n (inr s) o one =
-    let b = runs_last e es s.0 s.1 n s.2.1 o in
-    (s.0, (s.2.0, subst (Runs s.0 (e ∷ es)) (sym b) s.2.1, s.2.2, s.2.3))
+sofar_in_order (e ∷ es) n (inr s) o one = let b = runs_last e es s.0 s.1 n s.2.1 o in (s.0, grind (arith, common_steps))
+
+sound_parts : (real order : Bool) (p n : ℕ) (has : Bool) → (real && (order && (precedes p n && not has))) ≡ true → (order ≡ true) × (p < n) × (p ≡ 0 → n ≡ 1) × (has ≡ false)
+sound_parts real order p n has h = grind (arith, common_steps)
 
 delta_next : (es : List Entry) (o : Option DeltaRecord) → Ready es → Next (on_delta es o)
 delta_next es None r = tt
@@ -136,16 +137,11 @@ delta_next es (Some d) r = go (sound es d) refl
   where
     go : (b : Bool) → sound es d ≡ b → Next (cond b (next es (lists (opened d))) (fault HeadContent))
     go true e =
-        let p = and_parts d.real (in_order es d.serial && (precedes d.predecessor d.serial && not (has_sid es d.sid))) e in
-        let q = and_parts (in_order es d.serial) (precedes d.predecessor d.serial && not (has_sid es d.sid)) p.1 in
-        let s = and_parts (precedes d.predecessor d.serial) (not (has_sid es d.sid)) q.1 in
-        let t = and_parts (ltb d.predecessor d.serial) (eqb d.serial 1 || ltb 0 d.predecessor) s.0 in
-        let lower : d.predecessor < d.serial = ltb-true d.predecessor d.serial t.0 in
+        let (order, lower, first, new) = sound_parts d.real (in_order es d.serial) d.predecessor d.serial (has_sid es d.sid) e in
         let one : 1 ≤ d.serial = omega arith in
-        let o = sofar_in_order es d.serial r q.0 one in
-        let first : d.predecessor ≡ 0 → d.serial ≡ 1 = λ z. ⊎_elim (λ x. eqb-true d.serial 1 x) (λ x. let y = ltb-true 0 d.predecessor x in absurd (omega arith)) (or_cases (eqb d.serial 1) (ltb 0 d.predecessor) t.1) in
+        let o = sofar_in_order es d.serial r order one in
         let none : Below d.serial unlisted = λ k h. absurd (none_had d.serial unlisted k h) in
-        ((o.0, one, o.1, (lower, first, none, none), not-true (has_sid es d.sid) s.1), refl)
+        ((o.0, one, o.1, (lower, first, none, none), new), refl)
     go false e = tt
 
 close_next : (es : List Entry) (e : Entry) → Filling es e × Disjoint e → St (es ++ e ∷ []) (after_entry e.serial)
