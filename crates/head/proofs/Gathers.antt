@@ -40,8 +40,7 @@ module _ (own : ℕ) (other : SerialSet) (k : ℕ) where
   none_had h =
       let no = bits_none (0 ∷ []) refl k in
       let z : ◌≡◌ {A = Bool} true false = sym h ∙ no in
-      let y : ◌≡◌ {A = ℕ} 0 1 = cc in
-      omega arith
+      cc
 
   pub listed_fits : (m : SerialSet) (o : Option (List ℕ)) → worth own other o ≡ Ok m → serials m k ≡ true → Fits own other k
   listed_fits m None e h = cc
