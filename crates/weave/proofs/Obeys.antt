@@ -18,7 +18,7 @@ passed false o p none = (cc, cc)
 pub obeys : (top : ℕ) (rs : List Record) (ms : List Mark) (p : ℕ) → breach top ms p rs ≡ None → Obeys top ms rs
 unfolding breach
 obeys top [] [] p none = done
-obeys top [] (m ∷ ms) p none = let z : ◌≡◌ {A = ℕ} 0 1 = cc in absurd (omega arith)
+obeys top [] (m ∷ ms) p none = cc
 obeys top (opens m ∷ rs) ms p none =
     let (may, rest) = passed (may_open top (serial m) ms) (breach top (with_mark m ms) (p + 1) rs) p none in
     opening may (obeys top rs (with_mark m ms) (p + 1) rest)
@@ -28,4 +28,4 @@ obeys top (ends k ∷ rs) ms p none =
 obeys top (text l ∷ rs) ms p none =
     let (may, rest) = passed (ltb 0 (inserter ms)) (breach top ms (p + 1) rs) p none in
     lying may (obeys top rs ms (p + 1) rest)
-obeys top (wrong ∷ rs) ms p none = let z : ◌≡◌ {A = ℕ} 0 1 = cc in absurd (omega arith)
+obeys top (wrong ∷ rs) ms p none = cc

@@ -47,7 +47,7 @@ module _ {all : List Record} {i : ℕ} {ms : List Mark} (agree : Agree all i ms)
   after_text : (l : Line) → record_at all i ≡ text l → Agree all (i + 1) ms
   after_text l is = record {
     from = λ m a. still m (λ e. let z : ◌≡◌ {A = ℕ} 0 1 = cc in omega arith) (agree.from m a);
-    to = λ m o. ⊎_elim (λ (e : record_at all i ≡ opens m). let z : ◌≡◌ {A = ℕ} 0 1 = cc in absurd (omega arith)) (λ (b : OpenAt all m i). agree.to m b) (back m o);
+    to = λ m o. ⊎_elim (λ (e : record_at all i ≡ opens m). cc) (λ (b : OpenAt all m i). agree.to m b) (back m o);
   }
 
   after_opens : (n : Mark) → record_at all i ≡ opens n → Agree all (i + 1) (with_mark n ms)
@@ -80,7 +80,7 @@ module _ {all : List Record} {i : ℕ} {ms : List Mark} (agree : Agree all i ms)
         let z : ◌≡◌ {A = ℕ} 0 1 = cc in omega arith)
         (cases_lt o.0 i) in
         ⊎_elim
-        (λ (h : record_at all i ≡ opens m). let z : ◌≡◌ {A = ℕ} 0 1 = cc in absurd (omega arith))
+        (λ (h : record_at all i ≡ opens m). cc)
         (λ (b : OpenAt all m i). among_closed n other (agree.to m b))
         (back m o);
   }

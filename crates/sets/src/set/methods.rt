@@ -7,6 +7,7 @@ use std::array::from_fn;
 
 impl SerialSet {
     // The set without serials.
+    #[tactic(auto, using(crate::proofs::Words::bits_none))]
     pub fn empty() -> SerialSet
         ensures value { result ≡ unlisted }
         ensures serials { (k : ℕ) → serials result k ≡ false }
@@ -15,6 +16,7 @@ impl SerialSet {
     }
 
     // Bit n of the mask for serial n. (Not `From<u64>`: `SerialSet::from(n)` would read as the set of one serial.)
+    #[tactic(auto, using(crate::proofs::Words::bits_mask))]
     pub fn from_mask(mask: u64) -> SerialSet
         ensures { (k : ℕ) → serials result k ≡ bit mask k }
     {
