@@ -19,6 +19,7 @@ fn open_head<S: LineSource>(source: &S) -> Result<Head, Fault>
     ensures value { loaded result ≡ head_of (S.LineSource.health source.now) (S.LineSource.lines source.now) }
     ensures few { IfOk result (λ h. length (entries h.table) ≤ 63) }
 {
+    // The health stays a number: so it stands in the trait of sources, by the project's rule, 0 where all is whole.
     let health = source.health();
     if health != 0 {
         return Err(Fault::in_layer(Cause::NotWhole, health));
@@ -31,6 +32,7 @@ pub fn val<S: LineSource>(source: &S) -> Result<u8, Fault>
     ensures { result ≡ val_answer (head_of (S.LineSource.health source.now) (S.LineSource.lines source.now)) (S.LineSource.lines source.now) }
 {
     let head = open_head(source)?;
+    // `as` is proved to lose nothing, here and below: a head has at most 63 deltas, and `try_from` would add a failure that cannot happen.
     let count = head.table.len() as u8;
     check_body(source, head.records, count)?;
     Ok(count)

@@ -1,10 +1,9 @@
 -- The serials of a list that is allowed. Assumes nothing.
-use Rattle.std.proofs.Common.{◌≡◌, ℕ, ◌/◌, ◌%◌, ◌^◌, ◌<◌, ◌≤◌, Bool, true, false, cond, not, ◌&&◌, eqb, ltb, ◌⊎◌, List, [], ◌∷◌, length, get_or, Some, None, Ok, Err, Option, Result, sym, refl, ap, ◌∙◌, subst, inl, inr, ⊎_elim, arith}
+use Rattle.std.proofs.Common.{◌≡◌, ℕ, ◌/◌, ◌%◌, ◌^◌, ◌<◌, ◌≤◌, Bool, true, false, eqb, ◌⊎◌, List, [], ◌∷◌, length, get_or, Some, None, Ok, Option, sym, refl, ap, ◌∙◌, subst, inl, inr, ⊎_elim, arith}
 use lib.Bits.{bit_or}
+use Rattle.std.proofs.lemmas.Grind.{common_steps}
 use Rattle.std.proofs.lemmas.List.{set_past}
-use Rattle.std.proofs.lemmas.Bool.{and_parts, or_cases, not-true, ltb-true, eqb-true, cases_lt}
-use Rattle.lines.specs.declared.fault.Cause.{Cause}
-use Rattle.lines.specs.declared.fault.Cause.TheVariants.{HeadContent}
+use Rattle.std.proofs.lemmas.Bool.{and_parts, or_cases, eqb-true, cases_lt}
 use Rattle.sets.specs.declared.set.SerialSet.{SerialSet}
 use Rattle.sets.specs.Bits.{bits}
 use Rattle.sets.specs.Serials.{serials, unlisted, with_serial, gathered}
@@ -26,10 +25,7 @@ Fits own other k = (k < own) × (serials other k ≡ false)
 
 module _ (own : ℕ) (other : SerialSet) (k : ℕ) where
   allowed_fits : (n last : ℕ) → allowed n last own other ≡ true → Fits own other n
-  allowed_fits n last e =
-      let p = and_parts (ltb last n) (ltb n own && not (serials other n)) e in
-      let q = and_parts (ltb n own) (not (serials other n)) p.1 in
-      (ltb-true n own q.0, not-true (serials other n) q.1)
+  allowed_fits n last e = grind (arith, common_steps)
 
   gathered_fits : (ns : List ℕ) (s : SerialSet) (last : ℕ) → all_allowed last own other ns ≡ true → serials (gathered s ns) k ≡ true → (serials s k ≡ true) ⊎ Fits own other k
   gathered_fits [] s last e h = inl h
@@ -44,15 +40,8 @@ module _ (own : ℕ) (other : SerialSet) (k : ℕ) where
   none_had h =
       let no = bits_none (0 ∷ []) refl k in
       let z : ◌≡◌ {A = Bool} true false = sym h ∙ no in
-      let y : ◌≡◌ {A = ℕ} 0 1 = cc in
-      omega arith
+      cc
 
   pub listed_fits : (m : SerialSet) (o : Option (List ℕ)) → worth own other o ≡ Ok m → serials m k ≡ true → Fits own other k
   listed_fits m None e h = cc
-  listed_fits m (Some ns) e h = go (all_allowed 0 own other ns) refl e
-    where
-      go : (b : Bool) → all_allowed 0 own other ns ≡ b → cond {A = Result SerialSet Cause} b (Ok (gathered unlisted ns)) (Err HeadContent) ≡ Ok m → Fits own other k
-      go true a e =
-          let q : gathered unlisted ns ≡ m = cc in
-          ⊎_elim (λ had. absurd (none_had had)) (λ f. f) (gathered_fits ns unlisted 0 a (ap (λ s. serials s k) q ∙ h))
-      go false a e = cc
+  listed_fits m (Some ns) e h = grind (arith, common_steps, gathered_fits ns unlisted 0, none_had)

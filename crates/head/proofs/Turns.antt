@@ -22,10 +22,10 @@ pub begun : (ls : List Line) → Sofar ls (1, ls) []
 begun ls = (omega arith, omega arith, refl)
 
 -- is the last entry there?
-pub not-one : (o : Option ℕ) → true ≡ not (option_eq eqb o (Some 1)) → o ≡ Some 1 → ⊥
+not-one : (o : Option ℕ) → true ≡ not (option_eq eqb o (Some 1)) → o ≡ Some 1 → ⊥
 not-one o h z = grind (arith, common_steps)
 
-pub is-one : (o : Option ℕ) → false ≡ not (option_eq eqb o (Some 1)) → o ≡ Some 1
+is-one : (o : Option ℕ) → false ≡ not (option_eq eqb o (Some 1)) → o ≡ Some 1
 is-one o h = grind (arith, common_steps)
 
 two : (o : Option ℕ) → 1 ≤ unwrap_or o 64 → (o ≡ Some 1 → ⊥) → 2 ≤ unwrap_or o 64
@@ -37,10 +37,17 @@ lower o n h some = grind (arith, common_steps)
 to_counts : (o : Option ℕ) → (o ≡ Some 1 → ⊥) → turn_after o ≡ counts
 to_counts o more = grind (arith, common_steps)
 
-module _ (ls : List Line) (a b : Ahead) (es : List Entry) (so : Sofar ls a es) where
-  module _ (more : last_serial es ≡ Some 1 → ⊥) where
+-- o is the serial of the last entry
+module _ (ls : List Line) (a b : Ahead) (es : List Entry) (so : Sofar ls a es) (o : Option ℕ) (is : o ≡ last_serial es) where
+  module _ (test : true ≡ not (option_eq eqb o (Some 1))) where
+    more : last_serial es ≡ Some 1 → ⊥
+    more z = not-one o test (is ∙ z)
+
+    some : 2 ≤ left es
+    some = two (last_serial es) so.0 more
+
     pub room : length es < 63
-    room = omega (arith, two (last_serial es) so.0 more, so.1)
+    room = omega (arith, some, so.1)
 
     at_counts : head ls ≡ rest a es counts
     at_counts = sym so.2 ∙ ap (rest a es) (to_counts (last_serial es) more)
@@ -56,20 +63,20 @@ module _ (ls : List Line) (a b : Ahead) (es : List Entry) (so : Sofar ls a es) w
       left_is = ap (λ o. unwrap_or o 64) last_is
 
       pub smaller : left fs < left es
-      smaller = omega (arith, left_is, lower (last_serial es) h.0.serial h.2 (two (last_serial es) so.0 more))
+      smaller = omega (arith, left_is, lower (last_serial es) h.0.serial h.2 some)
 
       pub added : Sofar ls b fs
       added =
-          let low = lower (last_serial es) h.0.serial h.2 (two (last_serial es) so.0 more) in
+          let low = lower (last_serial es) h.0.serial h.2 some in
           let longer : length fs ≡ length es + 1 = ap length h.1 ∙ length_push es h.0 in (
             omega (arith, left_is, low.0),
             omega (arith, left_is, low.1, longer, so.1),
             ap (λ o. rest b fs (turn_after o)) last_is ∙ sym (at_counts ∙ h.3),
           )
 
-  module _ (one : last_serial es ≡ Some 1) where
+  module _ (test : false ≡ not (option_eq eqb o (Some 1))) where
     at_last : head ls ≡ rest a es (last last_marks)
-    at_last = sym so.2 ∙ ap (λ o. rest a es (turn_after o)) one
+    at_last = sym so.2 ∙ ap (λ o. rest a es (turn_after o)) (sym is ∙ is-one o test)
 
     pub ended : Ends a (Ok tt) b → head ls ≡ Ok (es, b.0 - 1)
     ended h = at_last ∙ h es

@@ -1,9 +1,10 @@
 -- Every head that is read is whole, and has no more records than there are lines. Assumes nothing.
-use Rattle.std.proofs.Common.{◌≡◌, ℕ, ◌+◌, ◌-◌, ◌<◌, ◌≤◌, Bool, true, false, cond, not, ◌&&◌, ◌||◌, eqb, ltb, leb, ◌⊎◌, List, [], ◌∷◌, ◌++◌, length, Some, None, Ok, Err, Option, Result, sym, refl, ap, ◌∙◌, subst, inl, inr, ⊎_elim, arith}
+use Rattle.std.proofs.Common.{◌≡◌, ℕ, ◌+◌, ◌-◌, ◌<◌, ◌≤◌, Bool, true, false, cond, not, ◌&&◌, eqb, ◌⊎◌, List, [], ◌∷◌, ◌++◌, length, Some, None, Ok, Err, Option, Result, sym, refl, ap, ◌∙◌, subst, inl, inr, arith}
 use Rattle.std.specs.List.{AllByRecursion}
+use Rattle.std.proofs.lemmas.Grind.{common_steps}
 use Rattle.std.proofs.ByRecursion.{All-push}
 use Rattle.std.proofs.lemmas.List.{length_push}
-use Rattle.std.proofs.lemmas.Bool.{and_parts, or_parts, or_cases, not-true, ltb-true, leb-true, eqb-true}
+use Rattle.std.proofs.lemmas.Bool.{or_parts, eqb-true}
 use Rattle.lines.specs.declared.fault.Cause.{Cause}
 use Rattle.lines.specs.declared.fault.Cause.TheVariants.{HeadContent}
 use Rattle.lines.specs.Lines.{Line}
@@ -97,12 +98,10 @@ ended es e f d one =
 
 -- a record of which only the form is judged
 formal_next : (b : Bool) (s : Step) → Next s → Next (formal b s)
-formal_next true s h = h
-formal_next false s h = tt
+formal_next b s h = grind (arith, common_steps)
 
 set_next : (s : Result SerialSet Cause) (f : SerialSet → Step) → ((m : SerialSet) → s ≡ Ok m → Next (f m)) → Next (with_set s f)
-set_next (Ok m) f h = h m refl
-set_next (Err c) f h = tt
+set_next s f h = grind (arith, common_steps)
 
 comment_next : (es : List Entry) (e : Entry) (l : Line) → Filling es e × Disjoint e → Next (on_comment es e l)
 comment_next es e l f = formal_next (comment_record l) (next es (close e)) f
@@ -125,11 +124,12 @@ includes_next es e l (Some r) s =
     ((f.0, f.1, f.2, (f.3.0, f.3.1, λ k h. (listed_fits e.serial unlisted k m (numbers (cut 32 r)) q h).0, f.3.3), f.4), s.1))
 
 sofar_in_order : (es : List Entry) (n : ℕ) → Ready es → in_order es n ≡ true → 1 ≤ n → (a : ℕ) × Sofar a es n
-sofar_in_order [] n r o one = (n, (leb-true n 63 (and_parts (leb 1 n) (leb n 63) o).1, refl, tt, tt))
+sofar_in_order [] n r o one = (n, grind (arith, common_steps))
 sofar_in_order (e ∷ es) n (inl q) o one = cc
-sofar_in_order (e ∷ es) n (inr s) o one =
-    let b = runs_last e es s.0 s.1 n s.2.1 o in
-    (s.0, (s.2.0, subst (Runs s.0 (e ∷ es)) (sym b) s.2.1, s.2.2, s.2.3))
+sofar_in_order (e ∷ es) n (inr s) o one = let b = runs_last e es s.0 s.1 n s.2.1 o in (s.0, grind (arith, common_steps))
+
+sound_parts : (real order : Bool) (p n : ℕ) (has : Bool) → (real && (order && (precedes p n && not has))) ≡ true → (order ≡ true) × (p < n) × (p ≡ 0 → n ≡ 1) × (has ≡ false)
+sound_parts real order p n has h = grind (arith, common_steps)
 
 delta_next : (es : List Entry) (o : Option DeltaRecord) → Ready es → Next (on_delta es o)
 delta_next es None r = tt
@@ -137,16 +137,11 @@ delta_next es (Some d) r = go (sound es d) refl
   where
     go : (b : Bool) → sound es d ≡ b → Next (cond b (next es (lists (opened d))) (fault HeadContent))
     go true e =
-        let p = and_parts d.real (in_order es d.serial && (precedes d.predecessor d.serial && not (has_sid es d.sid))) e in
-        let q = and_parts (in_order es d.serial) (precedes d.predecessor d.serial && not (has_sid es d.sid)) p.1 in
-        let s = and_parts (precedes d.predecessor d.serial) (not (has_sid es d.sid)) q.1 in
-        let t = and_parts (ltb d.predecessor d.serial) (eqb d.serial 1 || ltb 0 d.predecessor) s.0 in
-        let lower : d.predecessor < d.serial = ltb-true d.predecessor d.serial t.0 in
+        let (order, lower, first, new) = sound_parts d.real (in_order es d.serial) d.predecessor d.serial (has_sid es d.sid) e in
         let one : 1 ≤ d.serial = omega arith in
-        let o = sofar_in_order es d.serial r q.0 one in
-        let first : d.predecessor ≡ 0 → d.serial ≡ 1 = λ z. ⊎_elim (λ x. eqb-true d.serial 1 x) (λ x. let y = ltb-true 0 d.predecessor x in absurd (omega arith)) (or_cases (eqb d.serial 1) (ltb 0 d.predecessor) t.1) in
+        let o = sofar_in_order es d.serial r order one in
         let none : Below d.serial unlisted = λ k h. absurd (none_had d.serial unlisted k h) in
-        ((o.0, one, o.1, (lower, first, none, none), not-true (has_sid es d.sid) s.1), refl)
+        ((o.0, one, o.1, (lower, first, none, none), new), refl)
     go false e = tt
 
 close_next : (es : List Entry) (e : Entry) → Filling es e × Disjoint e → St (es ++ e ∷ []) (after_entry e.serial)
@@ -157,8 +152,7 @@ close_next es e s = go (eqb e.serial 1) refl
     go false q = inr (s.0.0, e.serial - 1, sofar_push es e s.0 s.1)
 
 last_next : (es : List Entry) (ms : List Line) → Whole es → Next (on_last es ms)
-last_next es [] h = h
-last_next es (m ∷ ms) h = h
+last_next es ms h = grind (arith, common_steps)
 
 judge_next : (es : List Entry) (t : Turn) (l : Line) → St es t → Next (judge es t l)
 judge_next es counts l s = formal_next (counts_record l) (next es delta) s
@@ -171,9 +165,7 @@ judge_next es (last []) l s = s
 judge_next es (last (m ∷ ms)) l s = formal_next _ (on_last es ms) (last_next es ms s)
 
 proceed_whole : (s : Step) (p : ℕ) (f : List Entry → Turn → Outcome) → Next s → ((es : List Entry) (t : Turn) → St es t → IsWhole (f es t)) → IsWhole (proceed s p f)
-proceed_whole (fault c) p f h k = tt
-proceed_whole (next es t) p f h k = k es t h
-proceed_whole (whole es) p f h k = h
+proceed_whole s p f h k = grind (arith, common_steps)
 
 walk_whole : (ls : List Line) (p : ℕ) (es : List Entry) (t : Turn) → St es t → IsWhole (walk p es t ls)
 walk_whole [] p es t s = tt
@@ -189,13 +181,10 @@ EndsBefore k (Ok (es, n)) = n < k
 EndsBefore k (Err f) = Unit {0}
 
 ends_more : (o : Outcome) (j k : ℕ) → j ≤ k → EndsBefore j o → EndsBefore k o
-ends_more (Ok (es, n)) j k h e = omega arith
-ends_more (Err f) j k h e = tt
+ends_more o j k h e = grind (arith, common_steps)
 
 proceed_ends : (s : Step) (p k : ℕ) (f : List Entry → Turn → Outcome) → p < k → ((es : List Entry) (t : Turn) → EndsBefore k (f es t)) → EndsBefore k (proceed s p f)
-proceed_ends (fault c) p k f h e = tt
-proceed_ends (next es t) p k f h e = e es t
-proceed_ends (whole es) p k f h e = h
+proceed_ends s p k f h e = grind (arith, common_steps)
 
 walk_ends : (ls : List Line) (p : ℕ) (es : List Entry) (t : Turn) → EndsBefore (p + length ls) (walk p es t ls)
 walk_ends [] p es t = tt

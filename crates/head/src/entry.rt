@@ -20,6 +20,7 @@ fn fill_entry<S: LineSource>(
     requires predecessor { d.predecessor < 256 }
     ensures { Fills records.old d entry.new result records.new }
 {
+    // Here and below `as` is proved to lose nothing; `try_from` would add a failure that cannot happen.
     let serial = d.serial as u8;
     let none = SerialSet::empty();
     let includes = records.take_list(b'i', serial, none)?;

@@ -50,6 +50,7 @@ impl<'a, S: LineSource> Records<'a, S> {
     pub(crate) fn refuse(&self, cause: Cause) -> Fault
         ensures { result ≡ placed cause self.now.0 }
     {
+        // `as` is proved to lose nothing; `try_from` would add a failure that cannot happen.
         Fault::at(cause, self.passed as u16 + 1)
     }
 

@@ -1,8 +1,13 @@
-use Rattle.std.proofs.Common.{◌≡◌, ◌+◌, [], ◌∷◌, Ok, drop, sym, ap, ◌∙◌, subst}
+use Rattle.std.proofs.Common.{◌≡◌, ◌+◌, [], ◌∷◌, Ok, drop, sym, ap, ◌∙◌, subst, arith}
 use Rattle.records.specs.HeadRecords.{after}
 use Rattle.head.specs.Reading.{here, list_at}
-use Rattle.head.proofs.Ahead.{listed_on}
+use Rattle.head.proofs.Ahead.{inside, listed_on}
 use Rattle.head.proofs.record.Records.take_list.Goals as goal
+
+pub invariant_of-self : goal.invariant_of-self
+invariant_of-self g c =
+    let s = c.self.inside.source.now in
+    omega (arith, inside (g.S.LineSource.lines s) c.self.inside.passed _ (ap here c.self.view_is ∙ sym c.in_ok-record.ensures), (g.S.LineSource.lawful s).0)
 
 pub returns-in-Ok : goal.returns-in-Ok
 returns-in-Ok g c =
