@@ -6,7 +6,7 @@ use sets::Lists;
 // The most deltas that a head has.
 pub const MOST_DELTAS: usize = 63;
 
-// One delta of the head.
+// One delta of the head. The predecessor is the number that its record writes, 0 for none, and no Option.
 #[derive(Clone, Copy)]
 pub struct Entry {
     pub sid: Sid,
@@ -15,8 +15,8 @@ pub struct Entry {
     pub lists: Lists,
 }
 
-// The deltas of a head, newest first: the first `count` of the entries. By the project's rule it is an array in a plain struct: a library
-// has no heap, and one entry is lent and filled while its records are read.
+// The deltas of a head, newest first: the first `count` of the entries. By the project's rule it is an array in a plain
+// struct: a library has no heap, and one entry is lent and filled while its records are read.
 #[derive(Clone, Copy)]
 pub struct Table {
     pub(crate) entries: [Entry; MOST_DELTAS],
