@@ -74,6 +74,3 @@ module _ (es : List Entry) (n : ℕ) (ls : List Line) (r : Request) (space : ℕ
 -- the head as it was read
 pub read_ok : (o : Outcome) (r : Result Head Fault) (h : Head) → loaded r ≡ o → r ≡ Ok h → o ≡ Ok (entries h.table, h.records)
 read_ok o r h is ok = sym is ∙ ap loaded ok
-
-pub read_err : (o : Outcome) (r : Result Head Fault) (f : Fault) → loaded r ≡ o → r ≡ Err f → o ≡ Err f
-read_err o r f is err = sym is ∙ ap loaded err

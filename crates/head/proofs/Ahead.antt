@@ -1,17 +1,14 @@
 -- The records ahead, and one record passed. Assumes nothing.
-use Rattle.std.proofs.Common.{◌≡◌, ℕ, ◌+◌, ◌<◌, List, [], ◌∷◌, length, get_or, drop, Some, Ok, Err, Option, Result, sym, refl, ap, ◌∙◌, subst, ⊎_elim}
-use Rattle.std.specs.Option.{ok_or, option_map}
+use Rattle.std.proofs.Common.{◌≡◌, ℕ, ◌+◌, ◌<◌, List, [], ◌∷◌, length, get_or, drop, Some, Ok, Err, Option, sym, refl, ap, ◌∙◌, subst, ⊎_elim}
 use Rattle.std.proofs.lemmas.List.{drop_more, drop_all}
 use Rattle.std.proofs.lemmas.Bool.{cases_lt}
-use Rattle.lines.specs.declared.fault.Cause.{Cause}
 use Rattle.lines.specs.declared.fault.Cause.TheVariants.{HeadForm}
-use Rattle.lines.specs.declared.fault.Fault.{Fault}
 use Rattle.lines.specs.Faults.{placed}
 use Rattle.lines.specs.Lines.{Line}
 use Rattle.sets.specs.declared.set.SerialSet.{SerialSet}
 use Rattle.records.specs.HeadRecords.{after}
 use Rattle.records.specs.SerialLists.{serial_list}
-use Rattle.head.specs.Reading.{Ahead, here, taken, take_as, list_at, Takes}
+use Rattle.head.specs.Reading.{here, list_at, Takes}
 
 module _ (ls : List Line) (k : ℕ) (l : Line) (is : here (k + 1, drop k ls) ≡ Ok l) where
   -- the next record of the lines after the first k
@@ -34,11 +31,3 @@ module _ (ls : List Line) (k : ℕ) (l : Line) (is : here (k + 1, drop k ls) ≡
   module _ (mark : Line) (own : ℕ) (other : SerialSet) (rest : Line) (has : after mark l ≡ Some rest) where
     pub listed_on : (m : SerialSet) → serial_list own other rest ≡ Ok m → Ok (m, (k + 1 + 1, drop (k + 1) ls)) ≡ list_at mark own other (k + 1, drop k ls)
     listed_on m s = rw (onward, has, s) refl
-
-    pub listed_bad : (c : Cause) → serial_list own other rest ≡ Err c → Err (placed c (k + 1)) ≡ list_at mark own other (k + 1, drop k ls)
-    listed_bad c s = rw (onward, has, s) refl
-
--- a reader that is a function
-pub read_as : {A : Type 0} (R : Line → Option A → Type 0) (f : Line → Option A) → ((l : Line) (o : Option A) → R l o → o ≡ f l) → (a b : Ahead) (r : Result A Fault) → Takes R a r b → taken r b ≡ take_as f a
-read_as R f is (p, []) b r h = ap (λ r. taken r b) h
-read_as R f is (p, l ∷ ls) b r h = h.2 ∙ ap (λ o. ok_or (option_map (λ x. (x, (p + 1, ls))) o) (placed HeadForm p)) (is l h.0 h.1)

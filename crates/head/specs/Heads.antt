@@ -24,8 +24,6 @@
 -- proceed s p f                 the outcome of the step s of the record at place p, where f says what the next ones come to
 -- walk p es t ls                the records ls from place p on; where they end early, the fault is one of form after the last
 -- head ls                       the head of the records ls
--- answered o                    the number of its records, or its fault
--- entries_of o                  its entries, newest first; none where it is at fault
 use Rattle.std.specs.Prelude.{ℕ, ◌+◌, ◌-◌, Bool, cond, not, ◌&&◌, ◌||◌, List, [], ◌∷◌, ◌++◌, length, Some, None, Ok, Err, Option, Result, ◌==◌, nat_le, nat_lt, slice_get}
 use Rattle.std.specs.List.{list_any}
 use Rattle.std.specs.Option.{option_map}
@@ -161,11 +159,3 @@ walk p es t (l ∷ ls) = proceed (judge es t l) p (λ es t. walk (p + 1) es t ls
 
 abbrev pub head : List Line → Outcome
 head ls = walk 1 [] counts ls
-
-abbrev pub answered : Outcome → Result ℕ Fault
-answered (Ok (es, n)) = Ok n
-answered (Err f) = Err f
-
-abbrev pub entries_of : Outcome → List Entry
-entries_of (Ok (es, n)) = es
-entries_of (Err f) = []
