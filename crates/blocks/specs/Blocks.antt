@@ -15,7 +15,7 @@
 -- Draftless          the store does not stand or has no draft, and the refusal f says so
 -- limits_of          the limits: those of the numbers, or 0 and 0 where the store does not stand
 -- health_of          the health: a block store is always whole
--- store_of .. k b m   list, health, draft and limits as one line store, with the bottom kind k
+-- store_of .. k b m  list, health, draft and limits as one line store, with the bottom kind k
 -- block_refusal ..   the refusal of the check before the making
 -- Laid               these lines lie at the front of a sheet, of its limit of lines, its bytes and the lines; each layout
 --                    has its own
