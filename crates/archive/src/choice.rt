@@ -24,6 +24,7 @@ fn is_bad(top: u8, lists: Lists, serial: u8) -> bool
 fn first_bad(top: u8, lists: Lists) -> Option<u8>
     ensures { result ≡ first_bad top (listed lists) }
 {
+    // `as` is proved to lose nothing, here and below
     (0..SERIALS as u8).find(|serial| is_bad(top, lists, *serial))
 }
 
@@ -35,7 +36,6 @@ pub fn choose(table: &Table, request: Request) -> Result<SerialSet, Fault>
         .find(request.sid)
         .ok_or(Fault::plain(Cause::NoSuchVersion))?;
     let lists = request.lists();
-    // `as` is proved to lose nothing: there are at most 63 deltas.
     match first_bad(table.len() as u8, lists) {
         Some(serial) => Err(Fault::of_serial(Cause::ListedSerial, serial)),
         None => Ok(set_of(table, version, lists)),

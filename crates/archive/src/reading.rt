@@ -32,7 +32,7 @@ pub fn val<S: LineSource>(source: &S) -> Result<u8, Fault>
     ensures { result ≡ val_answer (head_of (S.LineSource.health source.now) (S.LineSource.lines source.now)) (S.LineSource.lines source.now) }
 {
     let head = open_head(source)?;
-    // `as` is proved to lose nothing, here and below: a head has at most 63 deltas, and `try_from` would add a failure that cannot happen.
+    // `as` is proved to lose nothing, here and below: a head has at most 63 deltas
     let count = head.table.len() as u8;
     check_body(source, head.records, count)?;
     Ok(count)

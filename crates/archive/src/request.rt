@@ -5,7 +5,7 @@ ghost use Rattle.archive.specs.Requests.{lists_of};
 use records::sid::Sid;
 use sets::{Lists, SerialSet};
 
-// A version with a call's lists: serial n is bit n of a mask. The masks stay: by the project's rule a call hands its lists over so.
+// A version with a call's lists: serial n is bit n of a mask. By the project's rule a call hands its lists over so.
 #[derive(Clone, Copy)]
 pub struct Request {
     pub sid: Sid,

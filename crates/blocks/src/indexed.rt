@@ -17,8 +17,8 @@ fn span_of(entry: &[u8; 4], room: usize, start: usize) -> usize
     ensures { result ≡ span entry.now room 0 start }
 {
     let [a, b, c, d] = *entry;
-    let given = u16::from_le_bytes([a, b]) as usize;
-    let len = u16::from_le_bytes([c, d]) as usize;
+    let given = usize::from(u16::from_le_bytes([a, b]));
+    let len = usize::from(u16::from_le_bytes([c, d]));
     if given != start {
         return 0;
     }
@@ -42,6 +42,7 @@ fn bytes_of(number: usize) -> [u8; 2]
     requires { number < 65536 }
     ensures { result ≡ word_of number }
 {
+    // `as` is proved to lose nothing
     (number as u16).to_le_bytes()
 }
 

@@ -18,7 +18,7 @@ pub(crate) trait Layout {
     // These lines lie at the front of a sheet as the layout has them, by its limit of lines, its bytes and the lines.
     ghost laid: { ℕ → List ℕ → List (List ℕ) → Type 0 };
 
-    // The kind of a store with such sheets.
+    // The kind of a store with such sheets, a number as a health is.
     ghost KIND: { ℕ };
 
     ghost grows: { (L B : ℕ) → size L 0 ≤ size L B };

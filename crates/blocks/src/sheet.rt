@@ -52,6 +52,7 @@ pub(crate) fn read_line<L: Layout>(
     Ok(len)
 }
 
+// (No type for a line that was tested: the callers lend their bytes, and the stores test them once a call.)
 // Puts a line behind those of a sheet, where that passes no limit.
 pub(crate) fn add_line<L: Layout>(sheet: &mut [u8], tally: Tally, line: &[u8]) -> Result<(), Fault>
     requires size { length sheet.old ≡ L.Layout.size tally.lines tally.bytes }

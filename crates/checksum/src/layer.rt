@@ -11,7 +11,7 @@ use lines::line::is_line;
 use lines::source::{LineSource, MOST_LINES};
 use lines::store::LineStore;
 
-// The layer's kind, and its health where the sum does not hold.
+// The layer's kind, a number as a health is, and its health where the sum does not hold.
 const KIND: u8 = 4;
 
 // A layer over any source, and a store over any store. Its lines are those below without the first, which holds
@@ -103,6 +103,7 @@ impl<S: LineStore> LineStore for Checksum<S> {
         self.below.bottom()
     }
 
+    // The storing calls repeat the clauses of their trait, whose place an impl's own take, and add `below`.
     fn begin(&mut self) -> Result<(), Fault>
         ensures answer { result ≡ verdict (begin_refusal (over (S.LineStore.store self.old.below)).limits) tt }
         ensures store { over (S.LineStore.store self.new.below) ≡ begun (over (S.LineStore.store self.old.below)) }

@@ -30,7 +30,7 @@ pub fn sum_line(total: u16) -> [u8; SUM_LENGTH]
     ]
 }
 
-// The digit of a number that counts this unit.
+// The digit of a number that counts this unit. By hand, and the `as` proved to lose nothing: a format could fail.
 fn digit(n: u16, unit: u16) -> u8
     requires { 1 ≤ unit }
     ensures { result ≡ 48 + n / unit % 10 }

@@ -8,8 +8,8 @@ use lines::text::Text;
 use whole::measure::total_bytes;
 use whole::stored::store_whole;
 
-// One call of a source; false where the line names no such call. Each call takes other words and answers another type,
-// so a table of functions would need one type for them all.
+// One call of a source; was there one of that name? Each call takes other words and answers another type, so a table of
+// functions would need one type for them all.
 pub(crate) fn call_source<S: LineSource>(
     rt: &HostRuntime,
     line: &str,
@@ -33,7 +33,7 @@ pub(crate) fn call_source<S: LineSource>(
     Ok(true)
 }
 
-// One call of a store; false where the line names no such call.
+// One call of a store; was there one of that name? A `bool`, since this is all that is asked, as of a source.
 pub(crate) fn call_store<S: LineStore>(
     rt: &HostRuntime,
     line: &str,

@@ -7,17 +7,39 @@ use lines::source::LineSource;
 use lines::store::LineStore;
 use lines::text::Text;
 
-// Does a case begin with this line?
-pub(crate) fn is_case(line: &str) -> bool {
-    matches!(word(line, 0), "text" | "image" | "indexed")
+// What a case is about.
+#[derive(Clone, Copy, Debug, PartialEq, Eq)]
+enum Kind {
+    Text,
+    Image,
+    Indexed,
 }
 
-// Runs the case that begins with this line, with the calls that follow it.
-pub(crate) fn run_case(rt: &HostRuntime, line: &str, rest: &[String]) -> anyhow::Result<()> {
+// The kind of the case that begins with this line, if one does.
+fn kind_of(line: &str) -> Option<Kind> {
     match word(line, 0) {
-        "text" => run_text(rt, line, rest),
-        _ => run_block(rt, line, rest),
+        "text" => Some(Kind::Text),
+        "image" => Some(Kind::Image),
+        "indexed" => Some(Kind::Indexed),
+        _ => None,
     }
+}
+
+fn is_case(line: &str) -> bool {
+    kind_of(line).is_some()
+}
+
+// Runs each case of a table.
+pub(crate) fn run_cases(rt: &HostRuntime, table: &[String]) -> anyhow::Result<()> {
+    for (at, line) in table.iter().enumerate() {
+        let calls = &table[at + 1..];
+        match kind_of(line.as_str()) {
+            Some(Kind::Text) => run_text(rt, line.as_str(), calls)?,
+            Some(kind) => run_block(rt, kind, line.as_str(), calls)?,
+            None => {}
+        }
+    }
+    Ok(())
 }
 
 // A text under so many layers. Each number of layers is a type of its own, so each has an arm here and in `pile_up`.
@@ -45,13 +67,18 @@ fn ask<S: LineSource>(rt: &HostRuntime, rest: &[String], source: &S) -> anyhow::
 }
 
 // The two kinds of block are one store whose layouts have no name outside its crate, so nothing here is generic in them.
-fn run_block(rt: &HostRuntime, line: &str, rest: &[String]) -> anyhow::Result<()> {
+fn run_block(
+    rt: &HostRuntime,
+    kind: Kind,
+    line: &str,
+    rest: &[String],
+) -> anyhow::Result<()> {
     let layers = number(line, 1)?;
     let lines = number(line, 2)?;
     let bytes = number(line, 3)?;
     let size = number(line, 4)?;
     let mut block = vec![in rt.alloc(); b'#'; size]?;
-    if word(line, 0) == "image" {
+    if kind == Kind::Image {
         let made = Image::check(block.as_slice(), lines, bytes);
         print_answer(rt, made.map(|()| "image"))?;
         let store = Image::new(block.as_mut_slice(), lines, bytes);
@@ -86,30 +113,35 @@ fn use_pile<S: LineStore + Drop>(
     rest: &[String],
     mut store: S,
 ) -> anyhow::Result<()> {
-    let used = use_store(rt, rest, &mut store)?;
-    if used < rest.len() && word(rest[used].as_str(), 0) == "layer" {
-        println!(rt; "ok layer")?;
-        use_store(rt, &rest[used + 1..], &mut Checksum::new(store))?;
+    let rest = use_store(rt, rest, &mut store)?;
+    if let Some((line, calls)) = rest.split_first() {
+        if word(line.as_str(), 0) == "layer" {
+            println!(rt; "ok layer")?;
+            use_store(rt, calls, &mut Checksum::new(store))?;
+        }
     }
     Ok(())
 }
 
-// The calls on a store, up to the next line that is none; how many lines were used.
-fn use_store<S: LineStore>(
+fn ends_calls(line: &str) -> bool {
+    is_case(line) || matches!(word(line, 0), "block" | "layer")
+}
+
+// The calls on a store, up to the next line that is none; that line and those behind it.
+fn use_store<'t, S: LineStore>(
     rt: &HostRuntime,
-    rest: &[String],
+    lines: &'t [String],
     store: &mut S,
-) -> anyhow::Result<usize> {
-    for (i, text) in rest.iter().enumerate() {
-        let line = text.as_str();
-        if is_case(line) || matches!(word(line, 0), "block" | "layer") {
-            return Ok(i);
-        }
+) -> anyhow::Result<&'t [String]> {
+    let end = lines.iter().position(|line| ends_calls(line.as_str()));
+    let (calls, rest) = lines.split_at(end.unwrap_or(lines.len()));
+    for call in calls {
+        let line = call.as_str();
         if !call_store(rt, line, store)? {
             known(call_source(rt, line, store)?, line)?;
         }
     }
-    Ok(rest.len())
+    Ok(rest)
 }
 
 // The parts of the block that the case asks for, once the store has let go of it.

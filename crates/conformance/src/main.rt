@@ -4,7 +4,7 @@ mod calls;
 mod cases;
 mod words;
 
-use cases::{is_case, run_case};
+use cases::run_cases;
 use std::io::{BufRead, BufReader};
 
 fn main(rt: HostRuntime) -> anyhow::Result<()> {
@@ -18,11 +18,5 @@ fn run(rt: &HostRuntime) -> anyhow::Result<()> {
     for line in BufReader::new(heap, rt.stdin())?.lines(heap) {
         table.push(line?)?;
     }
-    let table = table.as_slice();
-    for (at, line) in table.iter().enumerate() {
-        if is_case(line.as_str()) {
-            run_case(rt, line.as_str(), &table[at + 1..])?;
-        }
-    }
-    Ok(())
+    run_cases(rt, table.as_slice())
 }

@@ -56,7 +56,8 @@ fn unescaped(b: u8) -> u8 {
 }
 
 // Bytes as they are printed: 33 to 126 but the backslash as they are, the others in hexadecimal. Crate
-// conformance_sfiles has the same: a program is no library, and one for this alone would make it a public call.
+// conformance_sfiles has the same four, from `word` on: in a library they would be public calls, whose contracts have to
+// pin each answer, and of the words of a text the kit states no list.
 #[derive(Clone, Copy)]
 pub(crate) struct Shown<'a>(pub(crate) &'a [u8]);
 
@@ -85,7 +86,7 @@ pub(crate) fn print_answer<T: fmt::Display + Drop>(
     Ok(())
 }
 
-// Prints an answer without a value, or the four numbers of a refusal.
+// Prints an answer without a value, and so without the blank before one.
 pub(crate) fn print_done(rt: &HostRuntime, answer: Result<(), Fault>) -> anyhow::Result<()> {
     match answer {
         Ok(()) => println!(rt; "ok")?,

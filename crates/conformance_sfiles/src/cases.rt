@@ -8,34 +8,54 @@ use lines::source::LineSource;
 use lines::text::Text;
 use weave::measure::Measure;
 
-// How many lines of an s-file follow this line, where it begins a case.
-pub(crate) fn brought(line: &str) -> anyhow::Result<Option<usize>> {
+// How an s-file is read: as it is, or under a layer.
+#[derive(Clone, Copy)]
+enum Kind {
+    Plain,
+    Summed,
+}
+
+// The kind of the case that begins with this line, if one does.
+fn kind_of(line: &str) -> Option<Kind> {
     match word(line, 0) {
-        "plain" | "summed" => Ok(Some(number(line, 1)?)),
-        _ => Ok(None),
+        "plain" => Some(Kind::Plain),
+        "summed" => Some(Kind::Summed),
+        _ => None,
     }
 }
 
-// Runs the case that begins with this line: an s-file of so many lines, and calls up to the next case.
-pub(crate) fn run_case(
-    rt: &HostRuntime,
-    line: &str,
-    rest: &[String],
-    count: usize,
-) -> anyhow::Result<()> {
-    if count > rest.len() {
-        return Err(anyhow!("the table ends inside an s-file"));
+// Runs each case of a table. The lines of an s-file are no lines of the table's own.
+pub(crate) fn run_cases(rt: &HostRuntime, table: &[String]) -> anyhow::Result<()> {
+    let mut rest = table;
+    while let Some((line, after)) = rest.split_first() {
+        rest = after;
+        if let Some(kind) = kind_of(line.as_str()) {
+            let Some((file, calls)) = after.split_at_checked(number(line.as_str(), 1)?) else {
+                return Err(anyhow!("the table ends inside an s-file"));
+            };
+            run_case(rt, kind, file, calls)?;
+            rest = calls;
+        }
     }
+    Ok(())
+}
+
+// Runs a case: an s-file, and calls up to the next case.
+fn run_case(
+    rt: &HostRuntime,
+    kind: Kind,
+    file: &[String],
+    calls: &[String],
+) -> anyhow::Result<()> {
     let mut bytes = Vec::new(rt.alloc());
-    for row in &rest[..count] {
+    for row in file {
         push_line(&mut bytes, row.as_str())?;
     }
     print_answer(rt, Text::check(bytes.as_slice()).map(|()| "text"))?;
     let text = Text::new(bytes.as_slice());
-    if word(line, 0) == "summed" {
-        ask(rt, &rest[count..], &Checksum::new(text))
-    } else {
-        ask(rt, &rest[count..], &text)
+    match kind {
+        Kind::Plain => ask(rt, calls, &text),
+        Kind::Summed => ask(rt, calls, &Checksum::new(text)),
     }
 }
 

@@ -108,7 +108,7 @@ fn digit(b: u8) -> anyhow::Result<u8> {
 }
 
 // Bytes as they are printed: 33 to 126 but the backslash as they are, the others in hexadecimal. Crate conformance has
-// the same: a program is no library, and one for this alone would make it a public call.
+// the same four, from `word` on, and says why.
 #[derive(Clone, Copy)]
 pub(crate) struct Shown<'a>(pub(crate) &'a [u8]);
 

@@ -115,6 +115,7 @@ impl<'a, S: LineSource> Records<'a, S> {
         let Some(serials) = list_after(record.as_slice(), letter) else {
             return Ok(SerialSet::empty());
         };
+        // a match: with `map_err` and `?` the goals of both exits stayed open
         match read_serials(serials, own, other) {
             Ok(set) => {
                 self.passed += 1;

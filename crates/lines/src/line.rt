@@ -32,7 +32,7 @@ pub fn put_line(line: &[u8], buf: &mut [u8]) -> Result<usize, Fault>
     Ok(len)
 }
 
-// A line that was fetched, in room of its own.
+// A line that was fetched, in room of its own: an array and its length, since a library has no heap.
 #[derive(Drop)]
 pub struct Fetched {
     bytes: [u8; LONGEST],

@@ -34,6 +34,7 @@ pub(crate) fn scan(bytes: &[u8]) -> Result<usize, Fault>
     for row in bytes.split_inclusive(|b| *b == LF) {
         count += 1;
         if count > MOST_LINES || !is_whole(row) {
+            // `as` is proved to lose nothing
             return Err(Fault::at(Cause::TextForm, count as u16));
         }
     }

@@ -14,13 +14,14 @@ pub const MOST_BYTES: usize = 24000;
 pub trait LineStore: LineSource {
     ghost store: { Self → Store };
 
+    // Members and no laws: only a law may name a law, and a draft that is seen as a source names the first.
     ghost lawful_draft: { (s : Self) → LawfulDraft (store s).draft };
 
     ghost lawful_limits: { (s : Self) → LawfulLimits (store s).limits };
 
     ghost lawful_bottom: { (s : Self) → LawfulKind (store s).bottom };
 
-    // The limit of lines and that of bytes.
+    // The limit of lines and that of bytes, a pair by the project's rule.
     fn limits(&self) -> (usize, usize)
         ensures { result ≡ (store self.now).limits };
 

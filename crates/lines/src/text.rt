@@ -99,9 +99,7 @@ impl<'a> LineSource for Text<'a> {
     }
 
     fn read(&self, n: usize, buf: &mut [u8]) -> Result<usize, Fault> {
-        match self.line(n) {
-            Some(line) => put_line(line, buf),
-            None => Err(Fault::plain(Cause::NoSuchLine)),
-        }
+        let line = self.line(n).ok_or(Fault::plain(Cause::NoSuchLine))?;
+        put_line(line, buf)
     }
 }

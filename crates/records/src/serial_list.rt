@@ -17,12 +17,14 @@ fn is_allowed(n: u32, last: u32, own: u8, other: SerialSet) -> bool
 pub fn read_serials(rest: &[u8], own: u8, other: SerialSet) -> Result<SerialSet, Cause>
     ensures { result ≡ serial_list own other rest.now }
 {
+    // 0 lies below every serial
     let mut last = 0;
     // None once a serial is not allowed; the words after it are read for their form alone.
     let mut list = Some(SerialSet::empty());
     for word in rest.split(|b| *b == b' ') {
         let n = read_serial_number(word).ok_or(Cause::HeadForm)?;
         list = match list {
+            // `as` is proved to lose nothing
             Some(set) if is_allowed(n, last, own, other) => Some(set.with(n as u8)),
             _ => None,
         };

@@ -22,9 +22,11 @@ fn set_in(table: &[Entry], version: u8, call: Lists) -> SerialSet
 {
     let mut set = SerialSet::empty();
     let mut marked = call;
+    // 0 once the first delta was reached: no entry has that serial
     let mut reached = version;
     let mut rest = table;
     'entries: while let Some((entry, older)) = rest.split_first() {
+        // `as` is proved to lose nothing
         let n = rest.len() as u8;
         let stands = is_in(marked, reached, n);
         if reached == n {

@@ -39,6 +39,7 @@ impl SerialSet {
         ensures serials { n < 64 → (k : ℕ) → serials result k ≡ (serials self k || n == k) }
     {
         let mut words = self.words;
+        // `as` only widens; with `From` the proof had two names for one number, and the goal of this arm stayed open
         let at = n as usize / 64;
         if at < WORDS {
             words[at] |= 1 << (n % 64);

@@ -36,11 +36,13 @@ impl<'a, S: LineSource> Shown<'a, S> {
         }
     }
 
-    // The breach at this place. Nothing comes after it.
+    // The breach at this place. Nothing comes after it: no source has the line at the place that is set (an Option of a
+    // place would have to be asked at each step).
     fn stop(&mut self) -> Fault
         ensures breach { Err result ≡ breach_at self.old.place }
         ensures over { to_come (S.LineSource.lines self.new.source.now) self.new.set self.new.marks self.new.place ≡ [] }
     {
+        // `as` is proved to lose nothing
         let fault = Fault::at(Cause::BodyRule, self.place as u16);
         self.place = MOST_LINES + 1;
         self.marks.clear();
