@@ -63,6 +63,6 @@ impl Marks {
     pub(crate) fn within(self) -> bool
         ensures { result ≡ within self }
     {
-        self.count <= self.lines && self.draft.unwrap_or(0) <= self.lines
+        self.count <= self.lines && self.draft.is_none_or(|n| n <= self.lines)
     }
 }

@@ -52,8 +52,8 @@ pub(crate) fn read_line<L: Layout>(
     Ok(len)
 }
 
-// (No type for a line that was tested: the callers lend their bytes, and the stores test them once a call.)
 // Puts a line behind those of a sheet, where that passes no limit.
+// (No type for a tested line: it would be made in two calls and used once in each.)
 pub(crate) fn add_line<L: Layout>(sheet: &mut [u8], tally: Tally, line: &[u8]) -> Result<(), Fault>
     requires size { length sheet.old ≡ L.Layout.size tally.lines tally.bytes }
     requires line { is_line line.now ≡ true }

@@ -11,6 +11,11 @@ use lines::text::Text;
 #[derive(Clone, Copy, Debug, PartialEq, Eq)]
 enum Kind {
     Text,
+    Block(BlockKind),
+}
+
+#[derive(Clone, Copy, Debug, PartialEq, Eq)]
+enum BlockKind {
     Image,
     Indexed,
 }
@@ -19,8 +24,8 @@ enum Kind {
 fn kind_of(line: &str) -> Option<Kind> {
     match word(line, 0) {
         "text" => Some(Kind::Text),
-        "image" => Some(Kind::Image),
-        "indexed" => Some(Kind::Indexed),
+        "image" => Some(Kind::Block(BlockKind::Image)),
+        "indexed" => Some(Kind::Block(BlockKind::Indexed)),
         _ => None,
     }
 }
@@ -35,7 +40,7 @@ pub(crate) fn run_cases(rt: &HostRuntime, table: &[String]) -> anyhow::Result<()
         let calls = &table[at + 1..];
         match kind_of(line.as_str()) {
             Some(Kind::Text) => run_text(rt, line.as_str(), calls)?,
-            Some(kind) => run_block(rt, kind, line.as_str(), calls)?,
+            Some(Kind::Block(kind)) => run_block(rt, kind, line.as_str(), calls)?,
             None => {}
         }
     }
@@ -66,28 +71,27 @@ fn ask<S: LineSource>(rt: &HostRuntime, rest: &[String], source: &S) -> anyhow::
     Ok(())
 }
 
-// The two kinds of block are one store whose layouts have no name outside its crate, so nothing here is generic in them.
-fn run_block(
-    rt: &HostRuntime,
-    kind: Kind,
-    line: &str,
-    rest: &[String],
-) -> anyhow::Result<()> {
+// The two kinds of block are one store whose layouts have no name outside its crate; a function generic in the store would be
+// handed `check` and `new`, and nothing else would be left of it.
+fn run_block(rt: &HostRuntime, kind: BlockKind, line: &str, rest: &[String]) -> anyhow::Result<()> {
     let layers = number(line, 1)?;
     let lines = number(line, 2)?;
     let bytes = number(line, 3)?;
     let size = number(line, 4)?;
     let mut block = vec![in rt.alloc(); b'#'; size]?;
-    if kind == Kind::Image {
-        let made = Image::check(block.as_slice(), lines, bytes);
-        print_answer(rt, made.map(|()| "image"))?;
-        let store = Image::new(block.as_mut_slice(), lines, bytes);
-        pile_up(rt, rest, layers, store)?;
-    } else {
-        let made = IndexedBlock::check(block.as_slice(), lines, bytes);
-        print_answer(rt, made.map(|()| "indexed"))?;
-        let store = IndexedBlock::new(block.as_mut_slice(), lines, bytes);
-        pile_up(rt, rest, layers, store)?;
+    match kind {
+        BlockKind::Image => {
+            let made = Image::check(block.as_slice(), lines, bytes);
+            print_answer(rt, made.map(|()| "image"))?;
+            let store = Image::new(block.as_mut_slice(), lines, bytes);
+            pile_up(rt, rest, layers, store)?;
+        }
+        BlockKind::Indexed => {
+            let made = IndexedBlock::check(block.as_slice(), lines, bytes);
+            print_answer(rt, made.map(|()| "indexed"))?;
+            let store = IndexedBlock::new(block.as_mut_slice(), lines, bytes);
+            pile_up(rt, rest, layers, store)?;
+        }
     }
     show_block(rt, rest, block.as_slice())
 }

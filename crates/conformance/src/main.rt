@@ -11,7 +11,7 @@ fn main(rt: HostRuntime) -> anyhow::Result<()> {
     run(&rt)
 }
 
-// Runs each case of the table on standard input.
+// Runs each case of the table on standard input. (Alike in both programs: reading it is all that a library would have.)
 fn run(rt: &HostRuntime) -> anyhow::Result<()> {
     let heap = rt.alloc();
     let mut table = Vec::new(heap);

@@ -10,6 +10,7 @@ fn follows_on(before: Option<u8>, n: u32) -> bool
     ensures small { result ≡ true → n < 256 }
 {
     match before {
+        // `as` is proved to lose nothing
         None => (1..=MOST_DELTAS as u32).contains(&n),
         Some(before) => u32::from(before).checked_sub(1) == Some(n),
     }

@@ -43,6 +43,7 @@ impl Cause {
         ensures is { result ≡ number_of self }
         ensures back { cause_of result ≡ self }
     {
+        // the case's own number, which no `From` reads
         self as u8
     }
 }

@@ -8,8 +8,8 @@ use crate::name::is_user;
 use crate::numeral::read_serial_number;
 use crate::sid::{Sid, read_sid};
 
-// What a delta record says; `real` where its date and time are real. The flag stays: the project judges form apart from content, and a
-// record of the right form is taken apart whole.
+// What a delta record says; `real` where its date and time are real. The flag stays: the project judges form apart from
+// content, and a record of the right form is taken apart whole. The predecessor is 0 for none, as the record writes it.
 #[derive(Clone, Copy)]
 pub struct DeltaRecord {
     pub sid: Sid,

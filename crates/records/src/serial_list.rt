@@ -17,7 +17,7 @@ fn is_allowed(n: u32, last: u32, own: u8, other: SerialSet) -> bool
 pub fn read_serials(rest: &[u8], own: u8, other: SerialSet) -> Result<SerialSet, Cause>
     ensures { result ≡ serial_list own other rest.now }
 {
-    // 0 lies below every serial
+    // 0 lies below every serial; an Option would be wrapped again at each turn
     let mut last = 0;
     // None once a serial is not allowed; the words after it are read for their form alone.
     let mut list = Some(SerialSet::empty());

@@ -1,5 +1,6 @@
 use crate::sentences::sentence;
 use lines::fault::Fault;
+use std::fmt;
 
 // What became of a table that was stored: what reading it back found, and the room that is left.
 #[derive(Clone, Copy, Debug)]
@@ -14,20 +15,26 @@ pub struct Kept {
     pub room: (usize, usize),
 }
 
-// Prints what became of a table in a store.
-pub(crate) fn print_kept(rt: &impl Print, name: &str, kept: &Kept) -> anyhow::Result<()> {
-    let lines = kept.lines;
-    let bytes = kept.bytes;
-    let sum = kept.sum;
-    let health = kept.health;
-    let (more_lines, more_bytes) = kept.room;
-    println!(rt; "{name}: {lines} lines, {bytes} bytes, sum {sum:05}, health {health}")?;
-    match kept.difference {
-        None => println!(rt; "  every line reads as it was given")?,
-        Some(n) => println!(rt; "  line {n} does not read as it was given")?,
+impl fmt::Display for Kept {
+    fn fmt<W: fmt::Write>(&self, f: &mut fmt::Formatter<W>) -> fmt::Result {
+        let Kept {
+            lines,
+            bytes,
+            sum,
+            health,
+            ..
+        } = *self;
+        let (more_lines, more_bytes) = self.room;
+        writeln!(
+            f,
+            "{lines} lines, {bytes} bytes, sum {sum:05}, health {health}"
+        )?;
+        match self.difference {
+            None => writeln!(f, "  every line reads as it was given")?,
+            Some(n) => writeln!(f, "  line {n} does not read as it was given")?,
+        }
+        write!(f, "  room left: {more_lines} lines and {more_bytes} bytes")
     }
-    println!(rt; "  room left: {more_lines} lines and {more_bytes} bytes")?;
-    Ok(())
 }
 
 // Prints a refusal: its four numbers, and a plain sentence.

@@ -5,8 +5,8 @@ pub(crate) const USAGE: &str = "usage: tablearc < TABLE
 Stores the table on standard input, one line for each motor or valve, in two stores,
 reads it back, compares it line for line, and shows that a damaged copy is found out.";
 
-// What a refusal means, in a plain sentence. The sentences are this program's own, and a `Display` for another crate's
-// type can't be written here.
+// What a refusal means, in a plain sentence. The sentences are this program's own, and a type with `Display` would
+// only wrap this match.
 pub(crate) fn sentence(cause: Cause) -> &'static str {
     match cause {
         Cause::NotWhole => "The archive is damaged: the layer named is not whole.",

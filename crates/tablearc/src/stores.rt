@@ -1,7 +1,6 @@
 use crate::damage::show_damage;
 use crate::failure::Failure;
 use crate::keeping::keep_table;
-use crate::report::print_kept;
 use blocks::store::{Image, IndexedBlock};
 use checksum::layer::Checksum;
 use lines::source::MOST_LINES;
@@ -14,7 +13,8 @@ const IMAGE_BLOCK: usize = 2 * (MOST_LINES + MOST_BYTES);
 const INDEXED_BLOCK: usize = 2 * (4 * MOST_LINES + MOST_BYTES);
 
 // Stores a table in a checksum layer over an image and in one over an indexed block, and prints what became of it. The
-// two are the cases of one store whose layouts have no name outside its crate, so no function here can be generic in them.
+// two are the cases of one store whose layouts have no name outside its crate; a function generic in the store would be
+// handed `check` and `new`, and nothing else would be left of it.
 pub(crate) fn keep_in_both(rt: &HostRuntime, bytes: &[u8]) -> Result<(), Failure> {
     Text::check(bytes)?;
     let table = Text::new(bytes);
@@ -36,7 +36,8 @@ fn keep_in<S: LineStore + Drop>(
     store: S,
 ) -> Result<(), Failure> {
     let mut pile = Checksum::new(store);
-    print_kept(rt, name, &keep_table(table, &mut pile)?)?;
+    let kept = keep_table(table, &mut pile)?;
+    println!(rt; "{name}: {kept}")?;
     show_damage(rt, pile.below())?;
     Ok(())
 }

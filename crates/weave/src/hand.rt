@@ -12,7 +12,7 @@ use lines::source::LineSource;
 use sets::SerialSet;
 
 // Checks the rules of the body that stands after `head` lines; `top` is the greatest serial. (No struct of the three: a
-// caller has them from three places, and would build it for one call.)
+// caller has the source and a head, and would build it for one call, to be taken apart in the next.)
 pub fn check_body<S: LineSource>(source: &S, head: usize, top: u8) -> Result<(), Fault>
     ensures { result ≡ verdict (body_refusal top head (S.LineSource.lines source.now)) tt }
 {

@@ -16,8 +16,8 @@ pub(crate) const FREE: Slot<Mark> = Slot {
     element: Mark::Insert(0),
 };
 
-// The open marks of a body whose greatest serial is `top`, by rising serial. (No Model: it would be a pair, of which each
-// clause speaks of one part.)
+// The open marks of a body whose greatest serial is `top`, by rising serial. (No Model: its value would be a pair, and each
+// clause names one half of it.)
 #[derive(Drop)]
 pub(crate) struct OpenMarks<'a> {
     queue: Queue<'a, Mark>,

@@ -22,7 +22,7 @@ fn set_in(table: &[Entry], version: u8, call: Lists) -> SerialSet
 {
     let mut set = SerialSet::empty();
     let mut marked = call;
-    // 0 once the first delta was reached: no entry has that serial
+    // 0 once the first delta was reached, as its record writes it, and no Option
     let mut reached = version;
     let mut rest = table;
     'entries: while let Some((entry, older)) = rest.split_first() {

@@ -29,6 +29,7 @@ impl SerialSet {
     pub fn contains(self, n: u64) -> bool
         ensures { result ≡ serials self n }
     {
+        // `as` is proved to lose nothing
         let word = self.words.get((n / 64) as usize);
         word.is_some_and(|w| w >> (n % 64) & 1 == 1)
     }
@@ -41,6 +42,7 @@ impl SerialSet {
         let mut words = self.words;
         // `as` only widens; with `From` the proof had two names for one number, and the goal of this arm stayed open
         let at = n as usize / 64;
+        // no `get_mut`, which of an array tells a proof nothing of the elements
         if at < WORDS {
             words[at] |= 1 << (n % 64);
         }
