@@ -4,7 +4,8 @@ ghost use Rattle.head.specs.Heads.{sound, follows};
 use crate::table::{Entry, MOST_DELTAS, has_sid, last_serial};
 use records::delta_record::DeltaRecord;
 
-// May the serial n come after `before`, that of the last entry?
+// May the serial n come after `before`, that of the last entry? (The bound goes by clause to the one caller that needs it; a
+// type for a tested record would be made in one place and taken apart in the next.)
 fn follows_on(before: Option<u8>, n: u32) -> bool
     ensures value { result ≡ follows before n }
     ensures small { result ≡ true → n < 256 }

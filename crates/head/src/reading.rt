@@ -27,7 +27,8 @@ fn take_last<S: LineSource>(records: &mut Records<'_, S>) -> Result<(), Fault>
     records.take_mark(b"\x01T")
 }
 
-// Reads the head of an s-file: the first records of the source.
+// Reads the head of an s-file: the first records of the source. (That it has at most 63 entries is the table's own fact,
+// said again for callers who see a head and not how a table is made.)
 pub fn read_head<S: LineSource>(source: &S) -> Result<Head, Fault>
     ensures value { loaded result ≡ head (S.LineSource.lines source.now) }
     ensures whole { IfOk result (λ h. Whole (entries h.table)) }

@@ -15,6 +15,7 @@ pub fn store_whole<S: LineSource, D: LineStore>(source: &S, store: &mut D) -> Re
     ensures answer { result ≡ verdict (whole_refusal (S.LineSource.health source.now) (S.LineSource.lines source.now) (D.LineStore.store store.old)) tt }
     ensures store { D.LineStore.store store.new ≡ stored (S.LineSource.health source.now) (S.LineSource.lines source.now) (D.LineStore.store store.old) }
 {
+    // (A head is opened by the same test; a call for both would be a public one with a definition of its own, for two lines.)
     let health = source.health();
     if health != 0 {
         return Err(Fault::in_layer(Cause::NotWhole, health));

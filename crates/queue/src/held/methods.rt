@@ -32,7 +32,8 @@ impl<'a, E> Queue<'a, E> {
         self.search(key).is_ok()
     }
 
-    // Takes every element out.
+    // Takes every element out. (That the room stays is said by each call that changes a queue, since a contract here says
+    // all that stays.)
     pub fn clear(&mut self)
         ensures after { items self.new ≡ [] }
         ensures room { room self.new ≡ room self.old }
