@@ -62,8 +62,12 @@ pub(crate) fn add_line<L: Layout>(sheet: &mut [u8], tally: Tally, line: &[u8]) -
     ensures taken { MatchResult result (λ _. L.Layout.lines tally.lines sheet.new (tally.count + 1) ≡ L.Layout.lines tally.lines sheet.old tally.count ++ (line.now ∷ [])) (λ _. sheet.new ≡ sheet.old) }
     ensures layout { result ≡ Ok tt → L.Layout.laid tally.lines sheet.old (L.Layout.lines tally.lines sheet.old tally.count) → L.Layout.laid tally.lines sheet.new (L.Layout.lines tally.lines sheet.new (tally.count + 1)) }
 {
+    // tested first, so that a sheet that has its last line is not gone over
+    if tally.count >= tally.lines {
+        return Err(Fault::plain(Cause::NoRoom));
+    }
     let used = L::used(sheet, tally);
-    if tally.count >= tally.lines || used + line.len() > tally.bytes {
+    if used + line.len() > tally.bytes {
         return Err(Fault::plain(Cause::NoRoom));
     }
     L::append(sheet, tally, used, line);

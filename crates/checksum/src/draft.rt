@@ -5,7 +5,7 @@ ghost use Rattle.checksum.specs.Layer.{above, draft_lawful, limits_above, begun_
 
 use crate::sum::{SUM_LENGTH, ZERO_LINE, sum_after, sum_line};
 use lines::fault::{Cause, Fault};
-use lines::line::{LONGEST, fetch};
+use lines::line::{LONGEST, fetch_in};
 use lines::source::{LineSource, MOST_LINES};
 use lines::store::LineStore;
 
@@ -52,8 +52,8 @@ impl<'a, S: LineStore> LineSource for Draft<'a, S> {
 pub(crate) fn need_draft<S: LineStore>(below: &S) -> Result<(), Fault>
     ensures { result ≡ verdict (keep_refusal (above (S.LineStore.store below.now).draft)) tt }
 {
-    match fetch(&Draft { of: below }, 1) {
-        Some(line) if line.as_slice().len() == SUM_LENGTH => Ok(()),
+    match fetch_in(&Draft { of: below }, 1, &mut [0; LONGEST]) {
+        Some(line) if line.len() == SUM_LENGTH => Ok(()),
         _ => Err(Fault::plain(Cause::NoDraft)),
     }
 }

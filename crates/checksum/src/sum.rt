@@ -4,7 +4,7 @@ ghost use Rattle.checksum.specs.Layer.{summed};
 ghost use Rattle.checksum.specs.Change.{ChangeSeen};
 
 use lines::each::Lines;
-use lines::line::fetch;
+use lines::line::{LONGEST, fetch_in};
 use lines::source::LineSource;
 
 // The length of the line that holds a sum.
@@ -51,14 +51,21 @@ pub fn holds_sum<S: LineSource>(source: &S) -> bool
     ensures seen { ChangeSeen }
 {
     let want = sum_line(sum_after(source, 1));
-    fetch(source, 1).is_some_and(|line| line.as_slice() == want.as_slice())
+    fetch_in(source, 1, &mut [0; LONGEST]).is_some_and(|line| line == want.as_slice())
 }
 
 // The sum of the lines after the first `skipped` ones.
 pub(crate) fn sum_after<S: LineSource>(source: &S, skipped: usize) -> u16
     ensures { result ≡ sum_of (drop skipped (S.LineSource.lines source.now)) }
 {
-    Lines::after(source, skipped).fold(0, |total, line| add_line(total, line.as_slice()))
+    let mut lines = Lines::after(source, skipped);
+    let mut room = [0; LONGEST];
+    let mut total = 0;
+    // one room for all lines: a `for` would move each line, which costs more than many a read
+    while let Some(line) = lines.next_in(&mut room) {
+        total = add_line(total, line);
+    }
+    total
 }
 
 // The sum so far with one line more.

@@ -56,22 +56,31 @@ fn unescaped(b: u8) -> u8 {
 }
 
 // Bytes as they are printed: 33 to 126 but the backslash as they are, the others in hexadecimal. Crate
-// conformance_sfiles has the same four, from `word` on: in a library they would be public calls, whose contracts have to
+// conformance_sfiles has the same five, from `word` on: in a library they would be public calls, whose contracts have to
 // pin each answer, and of the words of a text the kit states no list.
 #[derive(Clone, Copy)]
 pub(crate) struct Shown<'a>(pub(crate) &'a [u8]);
 
 impl<'a> fmt::Display for Shown<'a> {
+    // By runs, a byte of either kind and the plain ones behind it, since a write for each byte takes longer.
     fn fmt<W: fmt::Write>(&self, f: &mut fmt::Formatter<W>) -> fmt::Result {
-        for byte in self.0 {
-            if *byte != b'\\' && byte.is_ascii_graphic() {
-                write!(f, "{}", char::from(*byte))?;
-            } else {
-                write!(f, "\\{byte:02x}")?;
-            }
+        for run in self.0.chunk_by(|_, next| is_plain(*next)) {
+            let plain = match run.split_first() {
+                Some((byte, rest)) if !is_plain(*byte) => {
+                    write!(f, "\\{byte:02x}")?;
+                    rest
+                }
+                _ => run,
+            };
+            // Plain bytes are ASCII, so this is all of them.
+            f.write_str(str::from_utf8(plain).unwrap_or(""))?;
         }
         Ok(())
     }
+}
+
+fn is_plain(byte: u8) -> bool {
+    byte != b'\\' && byte.is_ascii_graphic()
 }
 
 // Prints an answer with a value, or the four numbers of a refusal.

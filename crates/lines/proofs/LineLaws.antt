@@ -1,12 +1,12 @@
 -- Laws of lines, and of what a read answers. Assumes nothing.
-use Rattle.std.proofs.Common.{◌≡◌, ℕ, ◌+◌, ◌-◌, ◌<◌, ◌≤◌, Bool, true, false, not, eqb, ltb, leb, ◌⊎◌, List, [], length, Some, None, Ok, Option, sym, refl, ap, ◌∙◌, subst, inl, inr, ⊎_elim, arith}
+use Rattle.std.proofs.Common.{◌≡◌, ℕ, ◌+◌, ◌-◌, ◌<◌, ◌≤◌, Bool, true, false, not, eqb, ltb, leb, ◌⊎◌, List, [], length, Some, None, Ok, Err, Option, cond, sym, refl, ap, ◌∙◌, subst, inl, inr, ⊎_elim, arith}
 use Rattle.std.proofs.ByRecursion.{All-get_or}
 use Rattle.std.proofs.lemmas.List.{get_or_past}
 use Rattle.std.proofs.lemmas.Bool.{cases_lt, eq-eqb, ne_eqb, lt-ltb, le-ltb, leb-true, and_parts, or_left, or_right, or_from, cond-true, cond-false, ltb-true, not_from_true}
 use Rattle.lines.specs.declared.fault.Fault.{Fault}
 use Rattle.lines.specs.declared.fault.Cause.TheVariants.{NoSuchLine, ReadBufferShort, NoRoom, OtherLength}
 use Rattle.lines.specs.Faults.{Refusal, accepted, plain, when, verdict}
-use Rattle.lines.specs.Lines.{Line, no_lf, is_line, Lawful, line_of, lacks, total, room, put_refusal, read_refusal, add_refusal, patch_refusal}
+use Rattle.lines.specs.Lines.{Line, no_lf, is_line, Lawful, line_of, lacks, fetched, total, room, put_refusal, read_refusal, add_refusal, patch_refusal}
 
 -- a line has at most 240 bytes
 pub line_short : (l : Line) → is_line l ≡ true → length l ≤ 240
@@ -54,6 +54,20 @@ put_short len space h = check_fails _ _ _ (lt-ltb space len h)
 
 pub put_fits : (len space : ℕ) → len ≤ space → put_refusal len space ≡ accepted
 put_fits len space h = check_passes _ _ _ (le-ltb space len h)
+
+-- a read into room for any line is refused only where there is no such line
+read_whole : (ls : List Line) (n space : ℕ) → Lawful ls → 240 ≤ space → read_refusal ls n space ≡ when (lacks ls n) (plain NoSuchLine) accepted
+read_whole ls n space h o =
+    let short = short_of ls n h in
+    ap (when (lacks ls n) (plain NoSuchLine)) (put_fits (length (line_of ls n)) space (omega arith))
+
+refused_none : (t : Bool) (l : Line) (f : Fault) → Err f ≡ verdict (when t (plain NoSuchLine) accepted) (length l) → None ≡ cond t None (Some l)
+refused_none true l f e = refl
+refused_none false l f e = let z : ◌≡◌ {A = ℕ} 0 1 = cc in absurd (omega arith)
+
+pub fetched_none : (ls : List Line) (n space : ℕ) (f : Fault) → Lawful ls → 240 ≤ space → Err f ≡ verdict (read_refusal ls n space) (length (line_of ls n)) → None ≡ fetched ls n
+fetched_none ls n space f h o e =
+    refused_none (lacks ls n) (line_of ls n) f (e ∙ ap (λ q. verdict q (length (line_of ls n))) (read_whole ls n space h o))
 
 -- what a call on a draft that is there is refused with; t is the outcome of its last test
 module _ {D : Option (List Line)} {d : List Line} (is : D ≡ Some d) (l : Line) (g : is_line l ≡ true) where

@@ -1,8 +1,8 @@
-ghost use Rattle.std.specs.Prelude.{◌≡◌, ℕ, ◌≤◌, List, length, drop};
+ghost use Rattle.std.specs.Prelude.{◌≡◌, ℕ, ◌≤◌, List, [], ◌∷◌, length, drop, MatchOption};
 ghost use Rattle.std.specs.Iterator.{at_most};
 ghost use Rattle.std.specs.Map.Iter.{TakesFirst};
 
-use crate::line::{Fetched, fetch};
+use crate::line::{Fetched, LONGEST, fetch, fetch_in};
 use crate::source::{LineSource, MOST_LINES};
 use std::marker::Model;
 
@@ -37,6 +37,15 @@ impl<'a, S: LineSource> Lines<'a, S> {
             source,
             passed: passed.min(MOST_LINES),
         }
+    }
+
+    // The next line, in room that is lent for it: a pass over many lines needs room once.
+    pub fn next_in<'r>(&mut self, room: &'r mut [u8; LONGEST]) -> Option<&'r [u8]>
+        ensures { MatchOption result ((self.old ≡ []) × (self.new ≡ [])) (λ line. self.old ≡ line.now ∷ self.new) }
+    {
+        let line = fetch_in(self.source, self.passed + 1, room)?;
+        self.passed += 1;
+        Some(line)
     }
 }
 

@@ -1,4 +1,5 @@
 ghost use Rattle.std.specs.Prelude.{◌≡◌, ℕ, ◌≤◌, List, length, take, IfSome};
+ghost use Rattle.std.specs.Option.{option_map};
 ghost use Rattle.lines.specs.Faults.{verdict, left};
 ghost use Rattle.lines.specs.Lines.{is_line, fetched, fronted, put_refusal};
 
@@ -54,6 +55,20 @@ impl Fetched {
     {
         &self.bytes[..self.len]
     }
+}
+
+// Line n of a source, counted from 1, if it has that line, in room that is lent for it.
+pub fn fetch_in<'r, S: LineSource>(
+    source: &S,
+    n: usize,
+    room: &'r mut [u8; LONGEST],
+) -> Option<&'r [u8]>
+    ensures line { option_map (λ x. x.now) result ≡ fetched (S.LineSource.lines source.now) n }
+{
+    let Ok(len) = source.read(n, room) else {
+        return None;
+    };
+    Some(&room[..len])
 }
 
 // Line n of a source, counted from 1, if it has that line.

@@ -1,5 +1,5 @@
 -- The rules of a body as a relation: `breach` finds nothing exactly where they are obeyed.
-use Rattle.std.proofs.Common.{◌≡◌, ℕ, ◌+◌, Bool, true, false, cond, ltb, List, [], ◌∷◌, Some, None, Option, refl, arith}
+use Rattle.std.proofs.Common.{◌≡◌, ℕ, ◌+◌, Bool, true, false, cond, ltb, List, [], ◌∷◌, Some, None, Option, refl}
 use Rattle.lines.specs.Lines.{Line}
 use Rattle.records.specs.BodyRecords.{Mark, serial, Record, opens, ends, text, wrong}
 use Rattle.weave.specs.Marks.{with_mark, closed, inserter}

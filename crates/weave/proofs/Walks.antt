@@ -1,7 +1,6 @@
 -- What is handed on of a body, item by item, and what comes of it.
 use Rattle.std.proofs.Common.{◌≡◌, ℕ, suc, ◌+◌, ◌-◌, ◌*◌, ◌<◌, ◌≤◌, min, Bool, true, false, cond, eqb, ltb, List, [], ◌∷◌, length, get_or, drop, Some, None, Ok, Err, Option, Result, sym, refl, ap, ◌∙◌, ⊎_elim, suc-le-suc, add-zero, zero-add, arith}
 use Rattle.std.specs.Option.{is_some}
-use Rattle.std.specs.Iterator.{at_most, MakesProgress}
 use Rattle.std.proofs.lemmas.List.{at_drop_more, at_drop_all, length-append, get_or-drop, length-drop}
 use Rattle.std.proofs.lemmas.Bool.{cond_both, cond-true, cond-false, cases_Bool, cases_lt, or_parts, ltb-false, true≢false}
 use Rattle.lines.specs.declared.fault.Fault.{Fault}
@@ -131,10 +130,6 @@ from_head ls set m head n p whole is none =
     nothing_left ls set m p (omega arith) none
     ∙ sym (at_drop_all (λ xs. coming (serials set) m.top [] (head + 1) (body m.top xs)) ls head (omega arith) ∙ over (serials set) m.top (head + 1)))
     (cases_lt head n)
-
--- one item fewer is left
-pub progress : {S A : Type 0} (left : S → List Item) (can : S → Type 0) (s t : S) (x : A) (i : Item) → can t → left s ≡ i ∷ left t → MakesProgress can (λ v. at_most (length (left v))) s (Some x) t
-progress left can s t x i may is = record { on = λ finite. (may, tt, omega (arith, ap length is)); keeps = may; rests = λ finite. tt }
 
 -- the bytes of lines with their LFs
 unfoldable size : List Line → ℕ

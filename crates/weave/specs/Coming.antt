@@ -2,12 +2,16 @@
 -- one is, the refusal of the breach. Assumes nothing.
 --
 -- Item                   a line that is shown, or the refusal of a breach
+-- lent r                 what is handed on of a line in lent room: its bytes
+-- in_room r n            the same where the line stands at the front of the room r, by its length
 -- breach_at p            the refusal of a breach at place p
 -- and_then o is          the items `is`, after the line o if there is one
 -- coming s top ms p rs   the items of the records rs, with the marks ms open before them; the first record stands at place p
 -- to_come ls set marks p the items of the lines ls from place p on, counted from 1
 
-use Rattle.std.specs.Prelude.{ℕ, ◌+◌, ◌-◌, cond, List, [], ◌∷◌, drop, Some, None, Ok, Err, Option, Result}
+use Rattle.std.specs.Prelude.{ℕ, ◌+◌, ◌-◌, cond, List, [], ◌∷◌, take, drop, Some, None, Ok, Err, Option, Result}
+use Rattle.std.specs.Borrow.{Bor}
+use Rattle.std.specs.Result.{result_map_both}
 use Rattle.lines.specs.declared.fault.Fault.{Fault}
 use Rattle.lines.specs.declared.fault.Cause.TheVariants.{BodyRule}
 use Rattle.lines.specs.Faults.{placed}
@@ -24,6 +28,12 @@ use Rattle.weave.specs.declared.marks.OpenMarks.{OpenMarks}
 
 abbrev pub Item : Type 0
 Item = Result Line Fault
+
+abbrev pub lent : Result (Bor Line) Fault → Item
+lent r = result_map_both (λ x. x.now) (λ f. f) r
+
+abbrev pub in_room : List ℕ → Result ℕ Fault → Item
+in_room r n = result_map_both (λ len. take len r) (λ f. f) n
 
 abbrev pub breach_at : ℕ → Item
 breach_at p = Err (placed BodyRule p)

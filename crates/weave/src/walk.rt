@@ -7,6 +7,7 @@ use crate::marks::{FREE, OpenMarks, SLOTS};
 use crate::measure::Measure;
 use crate::shown::Shown;
 use lines::fault::Fault;
+use lines::line::LONGEST;
 use lines::source::LineSource;
 use sets::SerialSet;
 
@@ -22,10 +23,12 @@ pub(crate) fn walk<S: LineSource>(
     let mut slots = [FREE; SLOTS];
     let marks = OpenMarks::none(&mut slots, top);
     let mut measure = Measure { lines: 0, bytes: 0 };
-    for line in Shown::of(source, head, set, marks) {
+    let mut shown = Shown::of(source, head, set, marks);
+    let mut room = [0; LONGEST];
+    while let Some(line) = shown.next_in(&mut room) {
         let line = line?;
         measure.lines += 1;
-        measure.bytes += line.as_slice().len() + 1;
+        measure.bytes += line.len() + 1;
     }
     Ok(measure)
 }

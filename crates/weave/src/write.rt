@@ -7,6 +7,7 @@ ghost use Rattle.weave.specs.Handing.{body_refusal, shown_of};
 use crate::marks::{FREE, OpenMarks, SLOTS};
 use crate::shown::Shown;
 use lines::fault::Fault;
+use lines::line::LONGEST;
 use lines::source::LineSource;
 use sets::SerialSet;
 use whole::written::append_row;
@@ -27,9 +28,11 @@ pub(crate) fn write<S: LineSource>(
     let mut slots = [FREE; SLOTS];
     let marks = OpenMarks::none(&mut slots, top);
     let mut at = 0;
-    for line in Shown::of(source, head, set, marks) {
+    let mut shown = Shown::of(source, head, set, marks);
+    let mut room = [0; LONGEST];
+    while let Some(line) = shown.next_in(&mut room) {
         let line = line?;
-        at = append_row(line.as_slice(), out, at)?;
+        at = append_row(line, out, at)?;
     }
     Ok(())
 }

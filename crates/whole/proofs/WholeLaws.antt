@@ -1,7 +1,6 @@
 -- Laws of the lines of a whole source: their bytes, and their room in a store. Assumes nothing.
-use Rattle.std.proofs.Common.{◌≡◌, ℕ, suc, ◌+◌, ◌<◌, ◌≤◌, true, false, not, ◌&&◌, eqb, leb, min, List, [], ◌∷◌, ◌++◌, length, length-append, get_or-append-add, get_or, take, Some, None, sum_by, sym, refl, ap, ◌∙◌, ⊎_elim, arith}
+use Rattle.std.proofs.Common.{◌≡◌, ℕ, suc, ◌+◌, ◌<◌, ◌≤◌, true, false, not, ◌&&◌, eqb, leb, List, [], ◌∷◌, ◌++◌, length, length-append, get_or-append-add, get_or, take, Some, None, sum_by, sym, refl, ap, ◌∙◌, ⊎_elim, arith}
 use Rattle.std.specs.Str.{bytes_eq}
-use Rattle.std.specs.List.{position_or_len, zip}
 use Rattle.std.proofs.lemmas.List.{length-take}
 use Rattle.std.proofs.lemmas.Slice.Eq.{bytes_eq-Decides}
 use Rattle.std.proofs.lemmas.Bool.{cases_Bool, cond-true, cond-false, and_parts, and_from, leb-true, lt-ltb, le-leb, not_from_true}
@@ -66,43 +65,3 @@ next_taken lim ls d rest l ok room' split =
     let front : length d < lim.0 = omega arith in
     let more : total d + length l ≤ lim.1 = omega arith in
     check_passes _ _ _ (not_from_true _ is) ∙ check_passes _ _ _ (not_from_true _ (and_from _ _ (lt-ltb _ _ front) (le-leb _ _ more)))
-
--- where the first pair of unlike lines stands, if there is one, and the first line that only one list has
-abbrev pub unlike : List Line → List Line → ℕ
-unlike ls ms = position_or_len (λ p. not (bytes_eq p.0 p.1)) (zip ls ms)
-
-alike_step : (l m : Line) (ls ms : List Line) → bytes_eq l m ≡ true → unlike (l ∷ ls) (m ∷ ms) ≡ unlike ls ms + 1
-alike_step l m ls ms e = rw e (omega arith)
-
-unlike_here : (l m : Line) (ls ms : List Line) → bytes_eq l m ≡ false → unlike (l ∷ ls) (m ∷ ms) ≡ 0
-unlike_here l m ls ms e = rw e refl
-
-pub found_at : (n : ℕ) (ls ms : List Line) → unlike ls ms < length (zip ls ms) → differ_from n ls ms ≡ Some (n + unlike ls ms)
-found_at n [] ms h = absurd (omega arith)
-found_at n (l ∷ ls) [] h = absurd (omega arith)
-found_at n (l ∷ ls) (m ∷ ms) h =
-    ⊎_elim
-    (λ e. cond-true _ _ _ e ∙ found_at (n + 1) ls ms (omega (arith, alike_step l m ls ms e)) ∙ ap Some (omega (arith, alike_step l m ls ms e)))
-    (λ e. cond-false _ _ _ e ∙ ap Some (omega (arith, unlike_here l m ls ms e)))
-    (cases_Bool (bytes_eq l m))
-
--- where no pair is unlike, the longer list tells
-pub all_alike : (n : ℕ) (ls ms : List Line) → length (zip ls ms) ≤ unlike ls ms → length ls ≡ length ms → differ_from n ls ms ≡ None
-all_alike n [] [] h e = refl
-all_alike n [] (m ∷ ms) h e = absurd (omega (arith, e))
-all_alike n (l ∷ ls) [] h e = absurd (omega (arith, e))
-all_alike n (l ∷ ls) (m ∷ ms) h same =
-    ⊎_elim
-    (λ e. cond-true _ _ _ e ∙ all_alike (n + 1) ls ms (omega (arith, alike_step l m ls ms e)) (omega (arith, same)))
-    (λ e. absurd (omega (arith, unlike_here l m ls ms e)))
-    (cases_Bool (bytes_eq l m))
-
-pub one_longer : (n : ℕ) (ls ms : List Line) → length (zip ls ms) ≤ unlike ls ms → (length ls ≡ length ms → ⊥) → differ_from n ls ms ≡ Some (n + min (length ls) (length ms))
-one_longer n [] [] h e = absurd (e refl)
-one_longer n [] (m ∷ ms) h e = ap Some (omega arith)
-one_longer n (l ∷ ls) [] h e = ap Some (omega arith)
-one_longer n (l ∷ ls) (m ∷ ms) h other =
-    ⊎_elim
-    (λ e. cond-true _ _ _ e ∙ one_longer (n + 1) ls ms (omega (arith, alike_step l m ls ms e)) (λ same. other (omega (arith, same))) ∙ ap Some (omega arith))
-    (λ e. absurd (omega (arith, unlike_here l m ls ms e)))
-    (cases_Bool (bytes_eq l m))

@@ -1,8 +1,8 @@
-ghost use Rattle.std.specs.Prelude.{◌≡◌, None, not};
-ghost use Rattle.std.specs.Str.{bytes_eq};
+ghost use Rattle.std.specs.Prelude.{◌≡◌, None};
 ghost use Rattle.whole.specs.Whole.{first_difference};
 
 use lines::each::Lines;
+use lines::line::LONGEST;
 use lines::source::LineSource;
 
 // The number of the first line that two sources do not both have alike; none where their lists are equal.
@@ -11,21 +11,22 @@ pub fn first_difference<A: LineSource, B: LineSource>(a: &A, b: &B) -> Option<us
     ensures equal { result ≡ None → A.LineSource.lines a.now ≡ B.LineSource.lines b.now }
     ensures none { A.LineSource.lines a.now ≡ B.LineSource.lines b.now → result ≡ None }
 {
-    let left = a.count();
-    let right = b.count();
-    let unlike = Lines::of(a)
-        .zip(Lines::of(b))
-        .position(|(x, y)| differ(x.as_slice(), y.as_slice()));
-    match unlike {
-        Some(i) => Some(i + 1),
-        None if left == right => None,
-        None => Some(left.min(right) + 1),
+    let mut left = Lines::of(a);
+    let mut right = Lines::of(b);
+    let mut left_room = [0; LONGEST];
+    let mut right_room = [0; LONGEST];
+    let mut n = 1;
+    while let Some(x) = left.next_in(&mut left_room) {
+        let Some(y) = right.next_in(&mut right_room) else {
+            return Some(n);
+        };
+        if x != y {
+            return Some(n);
+        }
+        n += 1;
     }
-}
-
-// Are these two lines unlike?
-fn differ(a: &[u8], b: &[u8]) -> bool
-    ensures { result ≡ not (bytes_eq a.now b.now) }
-{
-    a != b
+    match right.next_in(&mut right_room) {
+        Some(_) => Some(n),
+        None => None,
+    }
 }

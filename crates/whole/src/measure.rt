@@ -3,6 +3,7 @@ ghost use Rattle.lines.specs.Lines.{total};
 ghost use Rattle.whole.specs.Whole.{fits};
 
 use lines::each::Lines;
+use lines::line::LONGEST;
 use lines::source::LineSource;
 use lines::store::LineStore;
 
@@ -10,7 +11,14 @@ use lines::store::LineStore;
 pub fn total_bytes<S: LineSource>(source: &S) -> usize
     ensures { result ≡ total (S.LineSource.lines source.now) }
 {
-    Lines::of(source).map(|line| line.as_slice().len()).sum()
+    // room lent once: a `for` over `Lines` would fill and copy room of its own for each line
+    let mut lines = Lines::of(source);
+    let mut room = [0; LONGEST];
+    let mut bytes = 0;
+    while let Some(line) = lines.next_in(&mut room) {
+        bytes += line.len();
+    }
+    bytes
 }
 
 // Would the lines of a source pass no limit of a store?

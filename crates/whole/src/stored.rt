@@ -6,6 +6,7 @@ ghost use Rattle.whole.specs.Whole.{fits, whole_refusal, stored};
 use crate::measure::has_room;
 use lines::each::Lines;
 use lines::fault::{Cause, Fault};
+use lines::line::LONGEST;
 use lines::source::LineSource;
 use lines::store::LineStore;
 
@@ -35,8 +36,10 @@ fn add_all<S: LineSource, D: LineStore>(source: &S, store: &mut D) -> Result<(),
     ensures answer { result ≡ Ok tt }
     ensures store { D.LineStore.store store.new ≡ drafting (S.LineSource.lines source.now) (D.LineStore.store store.old) }
 {
-    for line in Lines::of(source) {
-        store.add(line.as_slice())?;
+    let mut lines = Lines::of(source);
+    let mut room = [0; LONGEST];
+    while let Some(line) = lines.next_in(&mut room) {
+        store.add(line)?;
     }
     Ok(())
 }

@@ -7,7 +7,7 @@ ghost use Rattle.whole.specs.Whole.{row_at, row_refusal, text_of, text_refusal};
 use crate::measure::total_bytes;
 use lines::each::Lines;
 use lines::fault::{Cause, Fault};
-use lines::line::LF;
+use lines::line::{LF, LONGEST};
 use lines::source::LineSource;
 
 // Puts the lines of a source, each with its LF, at the front of the buffer, keeps the rest and answers their length. A
@@ -20,11 +20,12 @@ pub fn write_text<S: LineSource>(source: &S, buf: &mut [u8]) -> Result<usize, Fa
     if buf.len() < total_bytes(source) + source.count() {
         return Err(Fault::plain(Cause::BufferTooSmall));
     }
+    let mut lines = Lines::of(source);
+    let mut room = [0; LONGEST];
     let mut at = 0;
-    for line in Lines::of(source) {
-        let row = line.as_slice();
-        put_row(row, buf, at);
-        at += row.len() + 1;
+    while let Some(line) = lines.next_in(&mut room) {
+        put_row(line, buf, at);
+        at += line.len() + 1;
     }
     Ok(at)
 }

@@ -1,8 +1,7 @@
 use Rattle.std.proofs.Common.{◌+◌, [], length, drop, ap, ◌∙◌, arith}
 use Rattle.records.specs.BodyRecords.{body}
 use Rattle.sets.specs.Serials.{serials}
-use Rattle.weave.specs.Coming.{coming, to_come}
-use Rattle.weave.specs.declared.shown.Shown.{Shown}
+use Rattle.weave.specs.Coming.{coming}
 use Rattle.weave.proofs.Walks.{tally, measured, weight, lawful_light}
 use Rattle.weave.proofs.walk.walk.Goals as goal
 
@@ -12,7 +11,6 @@ loop-line-init g c =
     let s = serials c.args.set in
     let top = c.args.top in
     let head = c.args.head in
-    let all = ap (λ (v : Shown g.row.S.Denot g.S.LineSource). to_come (g.S.LineSource.lines v.source.now) v.set v.marks v.place) c.into_iter-line-iterator.ensures.into_iter_gives
-    ∙ c.of-line-items.ensures ∙ ap (λ t. coming s t [] (head + 1) (body t (drop head ls))) c.none-marks.ensures.top in
+    let all = c.of-shown.ensures ∙ ap (λ t. coming s t [] (head + 1) (body t (drop head ls))) c.none-marks.ensures.top in
     let few = lawful_light s top head ls (g.S.LineSource.lawful c.args.source.now) in
     record { same = ap (tally 0 0) all ∙ measured s top head ls; few = omega (arith, ap length all, few.0); small = omega (arith, ap weight all, few.1) }

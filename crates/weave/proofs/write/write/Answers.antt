@@ -3,7 +3,7 @@ use Rattle.lines.specs.Faults.{Refusal, verdict, left}
 use Rattle.lines.specs.Lines.{Line}
 use Rattle.whole.specs.Whole.{row_at, text_of}
 use Rattle.sets.specs.Serials.{serials}
-use Rattle.weave.specs.Coming.{Item, coming, to_come}
+use Rattle.weave.specs.Coming.{Item, lent, coming, to_come}
 use Rattle.records.specs.BodyRecords.{body}
 use Rattle.weave.specs.Handing.{shown_of}
 use Rattle.weave.specs.declared.shown.Shown.{Shown}
@@ -18,8 +18,7 @@ loop-line-init g c =
     let top = c.args.top in
     let head = c.args.head in
     let out = c.args.out.now in
-    let all = ap (λ (v : Shown g.row.S.Denot g.S.LineSource). to_come (g.S.LineSource.lines v.source.now) v.set v.marks v.place) c.into_iter-line-iterator.ensures.into_iter_gives
-    ∙ c.of-line-items.ensures ∙ ap (λ t. coming s t [] (head + 1) (body t (drop head ls))) c.none-marks.ensures.top in
+    let all = c.of-shown.ensures ∙ ap (λ t. coming s t [] (head + 1) (body t (drop head ls))) c.none-marks.ensures.top in
     let (clean, same) = sound_body s top head ls c.requires.valid in
     record {
       clean = ap sound all ∙ clean;
@@ -29,14 +28,13 @@ loop-line-init g c =
 pub loop-line-preserved : goal.loop-line-preserved
 loop-line-preserved g c =
     let items : Shown g.row.S.Denot g.S.LineSource → List Item = λ v. to_come (g.S.LineSource.lines v.source.now) v.set v.marks v.place in
-    let rest = items c.next.new.self in
-    let l : Line = c.in_ok-line.line in
-    let row : Line = c.as_slice.result.now in
+    let rest = items c.next_in.new.self in
+    let row : Line = c.in_ok-line.line.now in
     let was = c.args.out.now in
     let out = c.loop-line.out in
     let at = c.loop-line.at in
     let all = text_of (shown_of c.args.top (serials c.args.set) c.args.head (g.S.LineSource.lines c.args.source.now)) in
-    let split : items c.loop-line.line-iterator ≡ Ok row ∷ rest = c.in-Some.ensures.steps ∙ ap (λ i. i ∷ rest) (c.in_ok-line.was ∙ ap (λ x. Ok x) (sym c.as_slice.ensures)) in
+    let split : items c.loop-line.shown ≡ Ok row ∷ rest = c.in-Some.ensures ∙ ap (λ i. lent i ∷ rest) c.in_ok-line.was in
     let here = subst (λ is. Written all was out at (lines_of is)) split c.loop-line.invariant.done in
     let q = row_fits (length row) at (length out) (next_fits here) in
     let next : c.in_ok-at.at ≡ at + length row + 1 = cc (c.in_ok-at.was, c.append_row.ensures.answer, ap (λ (r : Refusal). verdict r (at + length row + 1)) q) in

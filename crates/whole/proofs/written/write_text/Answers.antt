@@ -30,12 +30,12 @@ returns-then-buf-total_bytes g c =
 pub loop-line-init : goal.loop-line-init
 loop-line-init g c =
     let ls : List Line = g.S.LineSource.lines c.args.source.now in
-    let all : c.into_iter-line-iterator.result ≡ ls = c.into_iter-line-iterator.ensures.into_iter_gives ∙ c.of-line-items.ensures in
+    let all : c.of-lines.result ≡ ls = c.of-lines.ensures in
     record { front = ap text_of all; kept = refl; room = omega (arith, ap (λ r. length (text_of r)) all, text_size ls, c.total_bytes.ensures, c.count.ensures) }
 
 -- the row of the next line has room
-row_room : (it rest : List Line) (line row : List ℕ) (at space : ℕ) → it ≡ line ∷ rest → row ≡ line → at + length (text_of it) ≤ space → at + (length row + 1) + length (text_of rest) ≤ space
-row_room it rest line row at space is same room = omega (arith, ap (λ r. length (text_of r)) is, length-append line (10 ∷ text_of rest), ap length same, room)
+row_room : (it rest : List Line) (line : List ℕ) (at space : ℕ) → it ≡ line ∷ rest → at + length (text_of it) ≤ space → at + (length line + 1) + length (text_of rest) ≤ space
+row_room it rest line at space is room = omega (arith, ap (λ r. length (text_of r)) is, length-append line (10 ∷ text_of rest), room)
 
 -- a row more at `at`, in a buffer whose front has the lines before it
 module _ (buf new first line : List ℕ) (rest : List Line) (at : ℕ) (text : List ℕ) (is : new ≡ take at buf ++ (line ++ (10 ∷ drop (at + length line + 1) buf))) (room : at + (length line + 1) ≤ length buf) where
@@ -53,18 +53,17 @@ module _ (buf new first line : List ℕ) (rest : List Line) (at : ℕ) (text : L
 
 pub put_row-requires : goal.put_row-requires
 put_row-requires g c =
-    omega (arith, row_room _ _ _ c.as_slice-row.result.now _ (length c.loop-line.buf) c.in-Some.ensures.steps c.as_slice-row.ensures c.loop-line.invariant.room)
+    omega (arith, row_room _ _ _ _ (length c.loop-line.buf) c.in-Some.ensures c.loop-line.invariant.room)
 
 pub loop-line-preserved : goal.loop-line-preserved
 loop-line-preserved g c =
     let inv = c.loop-line.invariant in
-    let row : List ℕ = c.as_slice-row.result.now in
-    let room = row_room _ _ _ row c.loop-line.at (length c.loop-line.buf) c.in-Some.ensures.steps c.as_slice-row.ensures inv.room in
+    let row : List ℕ = c.in-Some.line.now in
+    let room = row_room _ _ row c.loop-line.at (length c.loop-line.buf) c.in-Some.ensures inv.room in
     let fits : c.loop-line.at + (length row + 1) ≤ length c.loop-line.buf = omega (arith, room) in
-    let ahead : c.loop-line.line-iterator ≡ row ∷ c.next.new.self = c.in-Some.ensures.steps ∙ ap (λ l. l ∷ c.next.new.self) (sym c.as_slice-row.ensures) in
     record {
-      front = front c.loop-line.buf c.put_row.new.buf c.args.buf.now row c.next.new.self c.loop-line.at _ c.put_row.ensures fits (ap (λ r. take c.loop-line.at c.loop-line.buf ++ text_of r) (sym ahead) ∙ inv.front);
-      kept = kept c.loop-line.buf c.put_row.new.buf c.args.buf.now row c.next.new.self c.loop-line.at [] c.put_row.ensures fits inv.kept;
+      front = front c.loop-line.buf c.put_row.new.buf c.args.buf.now row c.next_in.new.self c.loop-line.at _ c.put_row.ensures fits (ap (λ r. take c.loop-line.at c.loop-line.buf ++ text_of r) (sym c.in-Some.ensures) ∙ inv.front);
+      kept = kept c.loop-line.buf c.put_row.new.buf c.args.buf.now row c.next_in.new.self c.loop-line.at [] c.put_row.ensures fits inv.kept;
       room = omega (arith, room, c.put_row.auto.buf);
     }
 
@@ -73,7 +72,7 @@ returns g c =
     let ls : List Line = g.S.LineSource.lines c.args.source.now in
     let buf : List ℕ = c.args.buf.now in
     let inv = c.loop-line.invariant in
-    let s = c.in-None.ensures.steps in
+    let s = c.in_default.ensures in
     let room : length (text_of ls) ≤ length buf = omega (arith, text_size ls, c.total_bytes.ensures, c.count.ensures) in
     let q = check_passes _ (plain BufferTooSmall) accepted (le-ltb (length buf) (length (text_of ls)) room) in
     let front : take c.loop-line.at c.loop-line.buf ≡ text_of ls = sym (append-nil _) ∙ ap (λ r. take c.loop-line.at c.loop-line.buf ++ text_of r) (sym s.0) ∙ inv.front in

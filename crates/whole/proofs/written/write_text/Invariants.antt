@@ -6,7 +6,10 @@ use Rattle.whole.proofs.written.write_text.Given as goal
 abbrev pub invariant-loop-line : goal.invariant-loop-line
 invariant-loop-line g l =
     record {
-      front : take l.at l.buf ++ text_of l.line-iterator ≡ text_of (g.S.LineSource.lines l.source);
+      front : take l.at l.buf ++ text_of l.lines ≡ text_of (g.S.LineSource.lines l.source);
       kept : drop l.at l.buf ≡ drop l.at l.initial.buf;
-      room : l.at + length (text_of l.line-iterator) ≤ length l.buf;
+      room : l.at + length (text_of l.lines) ≤ length l.buf;
     }
+
+abbrev pub decreases-loop-line : goal.decreases-loop-line
+decreases-loop-line g l = length l.lines

@@ -1,6 +1,6 @@
 use Rattle.std.proofs.Common.{◌≡◌, ◌-◌}
 use Rattle.weave.specs.Coming.{to_come}
-use Rattle.weave.proofs.shown.steps.ShownIterator.next.Given as goal
+use Rattle.weave.proofs.shown.Shown.seek.Given as goal
 
 abbrev pub invariant-records : goal.invariant-records
 invariant-records g l =
