@@ -14,15 +14,17 @@ pub struct Indexed;
 // The length that an index entry gives to its line, which starts at `start` in a text of `room` bytes: none where the
 // entry has another start, at most 240, and at most what is left.
 fn span_of(entry: &[u8; 4], room: usize, start: usize) -> usize
+    requires { start ≤ room }
     ensures { result ≡ span entry.now room 0 start }
 {
     let [a, b, c, d] = *entry;
     let given = usize::from(u16::from_le_bytes([a, b]));
-    let len = usize::from(u16::from_le_bytes([c, d]));
+    // cut as the 16 bits that it is: with both bounds of one type, the compiler makes a slower walk over an index
+    let len = usize::from(u16::from_le_bytes([c, d]).min(LONGEST as u16));
     if given != start {
         return 0;
     }
-    len.min(LONGEST).min(room.saturating_sub(start))
+    len.min(room - start)
 }
 
 // Where the line behind those of some index entries starts.

@@ -2,13 +2,13 @@ ghost use Rattle.std.specs.Prelude.{◌≡◌, ◌+◌, ◌-◌, ◌<◌, ◌≤
 ghost use Rattle.std.specs.Result.{MatchResult};
 ghost use Rattle.lines.specs.declared.fault.Cause.TheVariants.{NoSuchLine};
 ghost use Rattle.lines.specs.Faults.{plain, verdict, left};
-ghost use Rattle.lines.specs.Lines.{is_line, line_of, fronted, add_refusal, patch_refusal, read_refusal};
+ghost use Rattle.lines.specs.Lines.{is_line, line_of, fronted, put_refusal, add_refusal, patch_refusal, read_refusal};
 ghost use Rattle.blocks.specs.Laid.{clean};
 
 use crate::layout::Layout;
 use crate::tally::Tally;
 use lines::fault::{Cause, Fault};
-use lines::line::{LF, put_line};
+use lines::line::LF;
 
 // A byte of a line: a stray LF is read as 0. An index can let one into a line.
 fn cleaned(byte: u8) -> u8
@@ -17,12 +17,19 @@ fn cleaned(byte: u8) -> u8
     if byte == LF { 0 } else { byte }
 }
 
-fn clean_line(line: &mut [u8])
-    ensures { line.new ≡ map clean line.old }
+// Puts the bytes of a line at the front of the buffer, cleaned, keeps the rest and answers the length. One pass, which
+// reads nothing back: so the compiler can leave the writing out where a caller wants the length alone.
+fn put_clean(line: &[u8], buf: &mut [u8]) -> Result<usize, Fault>
+    ensures answer { result ≡ verdict (put_refusal (length line.now) (length buf.old)) (length line.now) }
+    ensures bytes { buf.new ≡ left (put_refusal (length line.now) (length buf.old)) (fronted (map clean line.now) buf.old) buf.old }
 {
-    for byte in line {
-        *byte = cleaned(*byte);
+    if buf.len() < line.len() {
+        return Err(Fault::plain(Cause::ReadBufferShort));
     }
+    for (i, byte) in line.iter().enumerate() {
+        buf[i] = cleaned(*byte);
+    }
+    Ok(line.len())
 }
 
 // The row of line `number`, which is counted from 1; the row is counted from 0.
@@ -47,9 +54,7 @@ pub(crate) fn read_line<L: Layout>(
     ensures bytes { buf.new ≡ left (read_refusal (L.Layout.lines tally.lines sheet.now tally.count) number (length buf.old)) (fronted (line_of (L.Layout.lines tally.lines sheet.now tally.count) number) buf.old) buf.old }
 {
     let place = L::place(sheet, tally, row_of(tally, number)?);
-    let len = put_line(&sheet[place], buf)?;
-    clean_line(&mut buf[..len]);
-    Ok(len)
+    put_clean(&sheet[place], buf)
 }
 
 // Puts a line behind those of a sheet, where that passes no limit.

@@ -5,7 +5,7 @@ ghost use Rattle.checksum.specs.Layer.{above, draft_lawful, limits_above, begun_
 
 use crate::sum::{SUM_LENGTH, ZERO_LINE, sum_after, sum_line};
 use lines::fault::{Cause, Fault};
-use lines::line::{LONGEST, fetch_in};
+use lines::line::LONGEST;
 use lines::source::{LineSource, MOST_LINES};
 use lines::store::LineStore;
 
@@ -52,8 +52,9 @@ impl<'a, S: LineStore> LineSource for Draft<'a, S> {
 pub(crate) fn need_draft<S: LineStore>(below: &S) -> Result<(), Fault>
     ensures { result ≡ verdict (keep_refusal (above (S.LineStore.store below.now).draft)) tt }
 {
-    match fetch_in(&Draft { of: below }, 1, &mut [0; LONGEST]) {
-        Some(line) if line.len() == SUM_LENGTH => Ok(()),
+    // with room for that length, so that a longer line is refused
+    match below.look(1, &mut [0; SUM_LENGTH]) {
+        Ok(SUM_LENGTH) => Ok(()),
         _ => Err(Fault::plain(Cause::NoDraft)),
     }
 }

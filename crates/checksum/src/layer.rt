@@ -121,6 +121,8 @@ impl<S: LineStore> LineStore for Checksum<S> {
         self.below.add(line)
     }
 
+    // inlined in the calls of a layer above, which look at the first line for its length alone
+    #[inline]
     fn look(&self, n: usize, buf: &mut [u8]) -> Result<usize, Fault> {
         need_draft(&self.below)?;
         self.below.look(number_below(n)?, buf)
