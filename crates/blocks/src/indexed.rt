@@ -19,7 +19,7 @@ fn span_of(entry: &[u8; 4], room: usize, start: usize) -> usize
 {
     let [a, b, c, d] = *entry;
     let given = usize::from(u16::from_le_bytes([a, b]));
-    // cut as the 16 bits that it is: with both bounds of one type, the compiler makes a slower walk over an index
+    // cut as the 16 bits that it is (the cast loses nothing): with one type for both bounds, a few entries take longer
     let len = usize::from(u16::from_le_bytes([c, d]).min(LONGEST as u16));
     if given != start {
         return 0;

@@ -189,7 +189,7 @@ impl<'a, L: Layout> LineStore for BlockStore<'a, L> {
         Ok(())
     }
 
-    // A checksum layer looks at the first line in each call, for its length alone; inlined there, it copies no bytes.
+    // A checksum layer asks this how long the first line is; where it is inlined, the compiler can leave the copy out.
     #[inline]
     fn look(&self, n: usize, buf: &mut [u8]) -> Result<usize, Fault> {
         let draft = self.drafted()?;

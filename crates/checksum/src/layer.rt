@@ -121,7 +121,7 @@ impl<S: LineStore> LineStore for Checksum<S> {
         self.below.add(line)
     }
 
-    // inlined in the calls of a layer above, which look at the first line for its length alone
+    // Inlined for the same reason as that of the stores below: a layer above asks it how long the first line is.
     #[inline]
     fn look(&self, n: usize, buf: &mut [u8]) -> Result<usize, Fault> {
         need_draft(&self.below)?;
